@@ -1,0 +1,4 @@
+pub mod Meaning
+pub mod Bounds
+pub mod Refusals
+pub mod Outcomes
