@@ -1,0 +1,4 @@
+pub mod Listing
+pub mod Refusals
+pub mod Faults
+pub mod Listed
