@@ -2,3 +2,4 @@ pub mod Meaning
 pub mod Bounds
 pub mod Refusals
 pub mod Outcomes
+pub mod Counts
