@@ -15,5 +15,6 @@ pub use exchange::Reply;
 pub use exchange::ReplyDebug;
 pub use exchange::ReplyEq;
 pub use exchange::ReplyPartialEq;
-
+pub use perform::make;
+pub use perform::make_all;
 pub use run::Run;
