@@ -1,11 +1,9 @@
 use mathlib.Core.Path.{_≡_, sym, ap, _∙_}
-use mathlib.Core.Bool.{Bool, cond}
-use Prim.Native.Nat.{ℕ, _<_}
+use Prim.Native.Nat.{_<_}
 use native.Mathlib.Omega.{arith}
 use lib.ListN.{length}
-use Rattle.process.specs.Outcomes.{Outcome}
 use Rattle.process.specs.Counts.{one-if}
-use Rattle.process.proofs.Tries.{tried, try-counts, sum-more}
+use Rattle.process.proofs.Tries.{next-told, sum-more}
 use Rattle.run.proofs.run.Run.openings.Needs as need
 use Rattle.run.proofs.run.Run.openings.Needs.{then-is-ok, else-is-ok}
 
@@ -17,12 +15,10 @@ loop-choice-again g c =
     let out : length (c .loop-choice .out) ≡ m .width = omega arith in
     let long : length row ≡ m .width = omega arith in
     let below : i < m .choices = omega arith in
-    let adds = try-counts (m .next row i) (c .loop-choice .out) (c .next .result)
-      (c .next .ensures .answer ∙ ap (λ (o : Outcome). o .answer) (tried m row (c .loop-choice .out) i long out below)) in
-    let one : (t : Bool) → c .is-ok .result ≡ t → cond t 1 0 ≡ one-if (m .next row i) =
-      λ t e. ap (λ (x : Bool). cond x 1 0) (sym e ∙ c .is-ok .ensures .value) ∙ adds in
+    let told = next-told m row _ _ i _ long out below (c .next .ensures .answer) (c .next .ensures .left) in
+    let ok = sym (c .is-ok .ensures .value) in
     let more = sum-more (λ k. one-if (m .next row k)) i in
     elim (c .if-is-ok .came) [
-      then-is-ok w ↦ let e = one _ (w .if-is-ok .taken) in (omega arith, omega arith)
-    | else-is-ok w ↦ let e = one _ (w .if-is-ok .left) in (omega arith, omega arith)
+      then-is-ok w ↦ let e = ap one-if (told .0 (ok ∙ w .if-is-ok .taken)) in (omega arith, omega arith)
+    | else-is-ok w ↦ let e = ap one-if (told .1 (ok ∙ w .if-is-ok .left)) in (omega arith, omega arith)
     ]
