@@ -1,0 +1,4 @@
+pub mod Accepting
+pub mod Existing
+pub mod Running
+pub mod Law

@@ -1,0 +1,34 @@
+//! A rehearsal: an inspection and a whole run.
+ghost use mathlib.Core.Path.{_≡_};
+ghost use mathlib.Core.List.{map};
+ghost use Rattle.run.specs.Runs.{closed-stands};
+ghost use Rattle.run.specs.Exchanges.{entry-of};
+ghost use Rattle.inspect.specs.Findings.{told};
+ghost use Rattle.engine.specs.Law.{Law};
+use book::Book;
+use inspect::Verdict;
+use inspect::inspect;
+use process::Process;
+use run::ClosedRun;
+use run::Exchange;
+use run::Run;
+use run::make_all;
+
+/// What came of a rehearsal: the verdict on the book, and the run, closed.
+#[derive(Drop)]
+pub struct Rehearsal<P: Process> {
+    pub verdict: Verdict,
+    pub run: ClosedRun<P>,
+}
+
+/// Inspects the book, opens a run of the process, makes the calls one after the other, each with its own buffer, and
+/// closes the run. The exchanges then have the replies. The book's verdict does not stop the run.
+pub fn rehearse<P: Process + Drop, B: Book>(process: P, book: &B, exchanges: &mut [Exchange]) -> Rehearsal<P>
+    ensures same { λ r. ⌜ r .run .process ≡ process ⌝ }
+    ensures law { λ r. ⌜ Law (meaning process) (listing (now (book .entry))) (told (r .verdict)) (map entry-of (now (exchanges .entry))) (map entry-of (now (exchanges .exit))) (closed-stands meaning (r .run)) ⌝ }
+{
+    let verdict = inspect(&process, book);
+    let mut run = Run::open(process);
+    make_all(&mut run, exchanges);
+    Rehearsal { verdict, run: run.close() }
+}
