@@ -1,26 +1,36 @@
 -- How a run's cells hold its row.
-use mathlib.Core.Path.{_≡_, sym, ap, _∙_}
+use mathlib.Core.Path.{_≡_, refl, sym, ap, _∙_}
 use mathlib.Core.List.{_++_}
+use mathlib.Core.Bool.{true}
 use Prim.Native.Nat.{ℕ}
 use native.Mathlib.Omega.{arith}
 use lib.ListN.{length, take}
 use Rattle.std.proofs.shelf.Lists.{take-at}
 use Rattle.std.proofs.shelf.Tests.{eqb-true}
+use Rattle.std.specs.Results.{isOk}
+use Rattle.std.specs.declared.result.Result.{Result}
+use Rattle.std.specs.declared.result.Result.the-variants.{Ok, Err}
 use Rattle.process.specs.Meaning.{Meaning, Row}
-use Rattle.process.specs.Outcomes.{Answer, gives, next-outcome}
-use Rattle.run.specs.Standing.{Stand, after-press, pressed, one-more}
+use Rattle.process.specs.Outcomes.{gives, told, next-outcome}
+use Rattle.process.specs.declared.refusal.Refusal.{Refusal}
+use Rattle.run.specs.Standing.{Stand, opened, row-after}
 
--- what was given was asked for with a buffer of the width
-pub gave-width : (m : Meaning) (r b : Row) (c : ℕ) (u : Unit {0}) → gives u ≡ next-outcome m r c b .answer → length b ≡ m .width
-gave-width m r b c u e = grind (arith, eqb-true (length b) (m .width))
+pub ok-gives : (a : Result Unit Refusal) → isOk a ≡ true → told a ≡ gives tt
+ok-gives (Ok u) e = refl
+ok-gives (Err w) e = cc
 
--- the stand of cells that begin with new
-pub stand-at : (w : ℕ) (cells new rest : Row) (a a′ b b′ : ℕ) → cells ≡ new ++ rest → length new ≡ w → a ≡ a′ → b ≡ b′ →
-  _≡_ {A = Stand} (record { row = take w cells; moved = a; refused = b }) (record { row = new; moved = a′; refused = b′ })
-stand-at w cells new rest a a′ b b′ i e p q = let f = ap (take w) i ∙ take-at new rest w e in cc
+gave-width : (m : Meaning) (r b : Row) (c : ℕ) → gives tt ≡ next-outcome m r c b .answer → length b ≡ m .width
+gave-width m r b c e = grind (arith, eqb-true (length b) (m .width))
 
--- a press that moved stands at the row that it left in the buffer
-pub pressed-on : (m : Meaning) (s : Stand) (c : ℕ) (b new : Row) (u : Unit {0}) → gives u ≡ next-outcome m (s .row) c b .answer → new ≡ next-outcome m (s .row) c b .left →
-  pressed m s c b ≡ record { row = new; moved = one-more (s .moved); refused = s .refused }
-pressed-on m s c b new u e l =
-  ap (λ (a : Answer Unit). after-press a (next-outcome m (s .row) c b .left) s) (sym e) ∙ sym (ap (λ (r : Row). record { row = r; moved = one-more (s .moved); refused = s .refused }) l)
+-- what was given stands in the first cells, once they begin with it
+pub gave-row : (m : Meaning) (r b cells new rest : Row) (c : ℕ) (a : Result Unit Refusal) → told a ≡ next-outcome m r c b .answer → isOk a ≡ true → length new ≡ length b →
+  cells ≡ new ++ rest → take (m .width) cells ≡ row-after (told a) new r
+gave-row m r b cells new rest c a e ok long is =
+  let gave = ok-gives a ok in
+  let w = gave-width m r b c (sym gave ∙ e) in
+  ap (take (m .width)) is ∙ take-at new rest (m .width) (long ∙ w) ∙ sym (ap (λ x. row-after x new r) gave)
+
+-- cells that begin with the start row
+pub opened-at : (m : Meaning) (new rest : Row) (a b : ℕ) → length new ≡ m .width → new ≡ m .start → a ≡ 0 → b ≡ 0 →
+  _≡_ {A = Stand} (record { row = take (m .width) (new ++ rest); moved = a; refused = b }) (opened m)
+opened-at m new rest a b long is p q = let row = take-at new rest (m .width) long in cc

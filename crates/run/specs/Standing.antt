@@ -27,9 +27,14 @@ one-more n = min (n + 1) 4294967295
 abbrev pub tallied : ℕ → Bool
 tallied n = eqb n 21 || eqb n 22
 
--- the stand after a press that answered a and left new in the buffer
+-- the row after a press that answered a and left new in the buffer
+abbrev pub row-after : Answer Unit → Row → Row → Row
+row-after (gives u) new r = new
+row-after (refuses n p) new r = r
+
+-- the stand after it
 abbrev pub after-press : Answer Unit → Row → Stand → Stand
-after-press (gives _) new s = record { row = new; moved = one-more (s .moved); refused = s .refused }
+after-press (gives u) new s = record { row = new; moved = one-more (s .moved); refused = s .refused }
 after-press (refuses n p) new s = record { row = s .row; moved = s .moved; refused = cond (tallied n) (one-more (s .refused)) (s .refused) }
 
 abbrev pub pressed : Meaning → Stand → ℕ → Row → Stand

@@ -22,10 +22,7 @@ impl<P: Process> Run<P> {
         ensures same { λ r. ⌜ r .process ≡ process ⌝ }
         ensures stand { λ r. ⌜ stands meaning r ≡ opened (meaning process) ⌝ }
     {
-        let mut standing = Standing::blank();
-        let width = process.width();
-        let all: &mut [u16] = &mut standing.cells;
-        let _ = process.start(&mut all[0..width]);
+        let standing = Standing::opened(&process);
         Run { process, standing }
     }
 
@@ -36,13 +33,9 @@ impl<P: Process> Run<P> {
         ensures left { λ _. ⌜ now (out .exit) ≡ next-outcome (means meaning (now (self .entry))) (stands meaning (now (self .entry)) .row) choice (now (out .entry)) .left ⌝ }
         ensures stand { λ _. ⌜ stands meaning (now (self .exit)) ≡ pressed (means meaning (now (self .entry))) (stands meaning (now (self .entry))) choice (now (out .entry)) ⌝ }
     {
-        let width = self.process.width();
-        let answer = self.process.next(self.standing.row(width), choice, out);
+        let answer = self.standing.attempt(&self.process, choice, out);
         match answer {
-            Ok(()) => {
-                self.standing.set_row(out);
-                self.standing.moved = self.standing.moved.saturating_add(1);
-            }
+            Ok(()) => self.standing.moved = self.standing.moved.saturating_add(1),
             Err(Refusal::WrongLength) => {}
             Err(Refusal::NoSuchChoice) => self.standing.refused = self.standing.refused.saturating_add(1),
             Err(Refusal::NotAllowed) => self.standing.refused = self.standing.refused.saturating_add(1),

@@ -1,0 +1,3 @@
+pub mod Examination
+pub mod Tables
+pub mod Means
