@@ -14,7 +14,7 @@ use Rattle.book.specs.Listing.{Listing, IsBook, In, row-at, among}
 use Rattle.book.proofs.Held.{among-in, in-among, not-among}
 use Rattle.inspect.specs.Findings.{FaultAt, fault-at, Finding, accepts, faults}
 use Rattle.inspect.specs.Verdicts.{or-else, first-below, led-out, choice-fault, row-fault, moves-in, or-accepts, verdict}
-use Rattle.inspect.proofs.Scans.{no-move, stays, leads-out as out-by, fault-is, leave-fault}
+use Rattle.inspect.proofs.Scans.{fault-is, leave-fault}
 use Rattle.engine.specs.Accepting.{StaysBy, Sound, SoundTo, Finds, no-fault, width-differs, start-not-held, unsafe-row, leads-out}
 use Rattle.engine.proofs.Closing.{none-below, below-none, row-parts, led-parts, accepted-closed, closed-is}
 
@@ -82,8 +82,8 @@ finds : (m : Meaning) (l : Listing) → Finds m l (verdict m l)
 finds m l = by-parts m l (eqb (l .width) (m .width)) (among (m .start) (l .rows)) (first-below (row-fault m l) (length (l .rows))) refl refl refl
 
 choice-none : (m : Meaning) (l : Listing) (i : ℕ) (r : Row) (c : ℕ) (o : Option Row) → m .next r c ≡ o → StaysBy m l r c → choice-fault m l i r c ≡ None
-choice-none m l i r c None e h = no-move m l i r c e
-choice-none m l i r c (Some s) e h = let p = h s e in stays m l i r s c e (in-among s (l .rows) (p .0) (p .1) (p .2))
+choice-none m l i r c None e h = ap (led-out l i c) e
+choice-none m l i r c (Some s) e h = let p = h s e in ap (led-out l i c) e ∙ cond-true _ _ _ (in-among s (l .rows) (p .0) (p .1) (p .2))
 
 row-none : (m : Meaning) (l : Listing) (i : ℕ) → Sound m l (row-at l i) → row-fault m l i ≡ None
 row-none m l i s = cond-true _ _ _ (s .safe) ∙ below-none _ (m .choices) (λ c h. choice-none m l i (row-at l i) c _ refl (s .stays c h))
@@ -105,7 +105,7 @@ said m l w b (unsafe-row i to n) = fault-said m l i (fault-at 15 i 0) to (cond-f
 said m l w b (leads-out i c s to t h before e n) =
   let r = row-at l i in
   fault-said m l i (fault-at 16 i c) to
-    (leave-fault m l i r c refl t (below-none _ c (λ b k. choice-none m l i r b _ refl (before b k))) h (out-by m l i r s c e (out-of l s n)))
+    (leave-fault m l i r c refl t (below-none _ c (λ b k. choice-none m l i r b _ refl (before b k))) h (ap (led-out l i c) e ∙ cond-false _ _ _ (out-of l s n)))
 
 pub found-iff : (m : Meaning) (l : Listing) → Lawful m → IsBook l → (f : Finding) → (f ≡ verdict m l) ↔ Finds m l f
 found-iff m l w b f = (λ e. subst (λ (x : Finding). Finds m l x) (sym e) (finds m l), said m l w b)
