@@ -48,10 +48,19 @@ pub enum Misread<'a> {
 pub impl fmt::Display for Misread<'_> as MisreadDisplay {
     fn fmt<W: fmt::Write>(&self, f: &mut fmt::Formatter<W>) -> fmt::Result {
         match self {
-            Misread::NoSuchCommand { word } => write!(f, "there is no command '{word}'; see docs/console.md"),
+            Misread::NoSuchCommand { word } => write!(
+                f,
+                "there is no command '{word}'; see docs/console.md"
+            ),
             Misread::Missing { what } => write!(f, "{what} is missing at the end of the line"),
-            Misread::NotANumber { word, most } => write!(f, "'{word}' is no number from 0 to {most}"),
-            Misread::NeitherSafeNorUnsafe { word } => write!(f, "a row is safe or unsafe, and not '{word}'"),
+            Misread::NotANumber { word, most } => write!(
+                f,
+                "'{word}' is no number from 0 to {most}"
+            ),
+            Misread::NeitherSafeNorUnsafe { word } => write!(
+                f,
+                "a row is safe or unsafe, and not '{word}'"
+            ),
             Misread::TooMuch { rest } => write!(f, "'{rest}' is too much on this line"),
         }
     }
@@ -72,7 +81,11 @@ pub fn number<'a>(word: &'a str, most: usize, what: &'static str) -> Result<usiz
         return Err(Misread::Missing { what });
     }
     match word.parse::<usize>() {
-        Ok(n) => if n <= most { Ok(n) } else { Err(Misread::NotANumber { word, most }) },
+        Ok(n) => if n <= most {
+            Ok(n)
+        } else {
+            Err(Misread::NotANumber { word, most })
+        },
         Err(_) => Err(Misread::NotANumber { word, most }),
     }
 }
@@ -86,7 +99,11 @@ fn last_number<'a>(rest: &'a str, what: &'static str) -> Result<usize, Misread<'
 }
 
 fn nothing<'a>(rest: &'a str) -> Result<(), Misread<'a>> {
-    if rest.is_empty() { Ok(()) } else { Err(Misread::TooMuch { rest }) }
+    if rest.is_empty() {
+        Ok(())
+    } else {
+        Err(Misread::TooMuch { rest })
+    }
 }
 
 // What is left of a call: nothing, or `with` and the buffer's length.
@@ -109,7 +126,9 @@ fn row<'a>(rest: &'a str) -> Result<Command<'a>, Misread<'a>> {
     match word {
         "safe" => Ok(Command::Row { safe: true, name }),
         "unsafe" => Ok(Command::Row { safe: false, name }),
-        "" => Err(Misread::Missing { what: "safe or unsafe" }),
+        "" => Err(Misread::Missing {
+            what: "safe or unsafe",
+        }),
         _ => Err(Misread::NeitherSafeNorUnsafe { word }),
     }
 }
@@ -130,7 +149,9 @@ fn arc<'a>(rest: &'a str) -> Result<Command<'a>, Misread<'a>> {
     let choice = cell(second, "the arc's choice")?;
     let to = cell(third, "the row to which the arc leads")?;
     nothing(end)?;
-    Ok(Command::Arc { arc: Arc { from, choice, to } })
+    Ok(Command::Arc {
+        arc: Arc { from, choice, to },
+    })
 }
 
 fn choice<'a>(rest: &'a str) -> Result<Command<'a>, Misread<'a>> {
@@ -142,14 +163,19 @@ fn choice<'a>(rest: &'a str) -> Result<Command<'a>, Misread<'a>> {
 fn press<'a>(rest: &'a str) -> Result<Command<'a>, Misread<'a>> {
     let (word, more) = cut(rest);
     let choice = number(word, usize::MAX, "the choice")?;
-    Ok(Command::Make { call: Call::Press { choice }, length: length(more)? })
+    Ok(Command::Make {
+        call: Call::Press { choice },
+        length: length(more)?,
+    })
 }
 
 fn examine<'a>(rest: &'a str) -> Result<Command<'a>, Misread<'a>> {
     match rest {
         "table" => Ok(Command::ExamineTable),
         "book" => Ok(Command::ExamineBook),
-        "" => Err(Misread::Missing { what: "table or book" }),
+        "" => Err(Misread::Missing {
+            what: "table or book",
+        }),
         _ => Err(Misread::TooMuch { rest }),
     }
 }
@@ -173,14 +199,22 @@ pub fn read<'a>(line: &'a str) -> Result<Command<'a>, Misread<'a>> {
         "row" => row(rest),
         "choice" => choice(rest),
         "arc" => arc(rest),
-        "book" => Ok(Command::Book { width: last_number(rest, "the width")? }),
+        "book" => Ok(Command::Book {
+            width: last_number(rest, "the width")?,
+        }),
         "cells" => Ok(Command::Cells { cells: rest }),
         "examine" => examine(rest),
         "inspect" => alone(Command::Inspect, rest),
         "open" => alone(Command::Open, rest),
         "press" => press(rest),
-        "look" => Ok(Command::Make { call: Call::Look, length: length(rest)? }),
-        "openings" => Ok(Command::Make { call: Call::Openings, length: length(rest)? }),
+        "look" => Ok(Command::Make {
+            call: Call::Look,
+            length: length(rest)?,
+        }),
+        "openings" => Ok(Command::Make {
+            call: Call::Openings,
+            length: length(rest)?,
+        }),
         "close" => alone(Command::Close, rest),
         "rehearse" => alone(Command::Rehearse, rest),
         "end" => alone(Command::End, rest),

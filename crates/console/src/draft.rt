@@ -14,7 +14,10 @@ pub struct Names {
 
 impl Names {
     pub fn new(heap: Global) -> Names {
-        Names { rows: Vec::new(heap), choices: Vec::new(heap) }
+        Names {
+            rows: Vec::new(heap),
+            choices: Vec::new(heap),
+        }
     }
 
     /// The name of the row, or nothing.
@@ -51,7 +54,13 @@ pub struct Draft {
 
 impl Draft {
     pub fn new(heap: Global) -> Draft {
-        Draft { safe: Vec::new(heap), arcs: Vec::new(heap), names: Names::new(heap), width: 0, cells: Vec::new(heap) }
+        Draft {
+            safe: Vec::new(heap),
+            arcs: Vec::new(heap),
+            names: Names::new(heap),
+            width: 0,
+            cells: Vec::new(heap),
+        }
     }
 
     pub fn begin_table(&mut self) {
@@ -67,19 +76,43 @@ impl Draft {
         Ok(())
     }
 
-    pub fn name_choice(&mut self, heap: Global, choice: usize, name: &str) -> Result<(), AllocError> {
-        self.names.choices.push((choice, String::from_str(heap, name)?))?;
+    pub fn name_choice(
+        &mut self,
+        heap: Global,
+        choice: usize,
+        name: &str,
+    ) -> Result<(), AllocError> {
+        self.names
+            .choices
+            .push((choice, String::from_str(heap, name)?))?;
         Ok(())
+    }
+
+    /// The names as they are written. The blank table, which stands for a faulty one, has none.
+    pub fn names(&self, heap: Global) -> Result<Names, AllocError> {
+        match table::examine(&self.safe, &self.arcs) {
+            Ok(()) => Ok(Names {
+                rows: self.names.rows.clone()?,
+                choices: self.names.choices.clone()?,
+            }),
+            Err(_) => Ok(Names::new(heap)),
+        }
     }
 
     /// The table as it is written, or the blank one.
     pub fn table(&self, heap: Global) -> Result<Table, AllocError> {
-        Ok(Table::new(Vec::from_slice(heap, &self.safe)?, Vec::from_slice(heap, &self.arcs)?))
+        Ok(Table::new(
+            Vec::from_slice(heap, &self.safe)?,
+            Vec::from_slice(heap, &self.arcs)?,
+        ))
     }
 }
 
 /// The cells of a line, or the word that is none.
-pub fn cells_of<'a>(heap: Global, text: &'a str) -> Result<Result<Vec<u16>, Misread<'a>>, AllocError> {
+pub fn cells_of<'a>(
+    heap: Global,
+    text: &'a str,
+) -> Result<Result<Vec<u16>, Misread<'a>>, AllocError> {
     let mut cells = Vec::new(heap);
     for word in text.split_whitespace() {
         match word.parse::<u16>() {

@@ -14,6 +14,8 @@ use crate::say::FaultWords;
 use crate::say::FaultWordsDisplay;
 use crate::say::RowName;
 use crate::say::RowNameDisplay;
+use crate::say::TableWords;
+use crate::say::TableWordsDisplay;
 use crate::say::Why;
 use crate::say::WhyDisplay;
 use book::ListedBook;
@@ -41,6 +43,7 @@ struct OpenRun {
     run: Run<Table>,
     width: usize,
     choices: usize,
+    names: Names,
 }
 
 /// What a script has stated and opened so far.
@@ -53,57 +56,128 @@ pub struct Session {
 
 impl Session {
     pub fn new(heap: Global) -> Session {
-        Session { draft: Draft::new(heap), run: None, rehearsal: None }
+        Session {
+            draft: Draft::new(heap),
+            run: None,
+            rehearsal: None,
+        }
     }
 }
 
 // Prints the verdict on a book.
 fn tell_verdict(rt: &LibcRuntime, line: usize, verdict: Verdict) -> io::Result<()> {
     match verdict {
-        Verdict::Accepted { moves } => println!(rt, "{line}: accepted moves {moves}; the book holds every row that a run can come to, and each is safe"),
+        Verdict::Accepted { moves } => println!(
+            rt,
+            "{line}: accepted moves {moves}; the book holds every row that a run can come to, and each is safe"
+        ),
         Verdict::Faulty { fault, row, choice } => {
             let number = fault.number();
-            println!(rt, "{line}: faulty {number} row {row} choice {choice}; {}", FaultWords(fault))
+            println!(
+                rt,
+                "{line}: faulty {number} row {row} choice {choice}; {}",
+                FaultWords(fault)
+            )
         }
     }
 }
 
 // Prints the answer to a call.
-fn tell_exchange(rt: &LibcRuntime, line: usize, exchange: &Exchange, width: usize, choices: usize, names: &Names) -> io::Result<()> {
+fn tell_exchange(
+    rt: &LibcRuntime,
+    line: usize,
+    exchange: &Exchange,
+    width: usize,
+    choices: usize,
+    names: &Names,
+) -> io::Result<()> {
     let cells: &[u16] = &exchange.buffer;
     let row = RowName(names.row(cells));
     match exchange.reply {
         Some(Ok(Reply::Moved)) => match exchange.call {
-            Call::Press { choice } => println!(rt, "{line}: moved {}; {}: {row}", Cells(cells), ChoiceName { choice, name: names.choice(choice) }),
+            Call::Press { choice } => println!(
+                rt,
+                "{line}: moved {}; {}: {row}",
+                Cells(cells),
+                ChoiceName {
+                    choice,
+                    name: names.choice(choice)
+                }
+            ),
             _ => Ok(()),
         },
         Some(Ok(Reply::Shown)) => println!(rt, "{line}: shown {}; {row}", Cells(cells)),
-        Some(Ok(Reply::Counted { count })) => println!(rt, "{line}: openings {count} {}; {row}", Cells(cells)),
-        Some(Err(refusal)) => tell_refusal(rt, line, exchange.call, Why { refusal, length: cells.len(), width, choices }, names),
+        Some(Ok(Reply::Counted { count })) => println!(
+            rt,
+            "{line}: openings {count} {}; {row}",
+            Cells(cells)
+        ),
+        Some(Err(refusal)) => tell_refusal(
+            rt,
+            line,
+            exchange.call,
+            Why {
+                refusal,
+                length: cells.len(),
+                width,
+                choices,
+            },
+            names,
+        ),
         None => Ok(()),
     }
 }
 
-fn tell_refusal(rt: &LibcRuntime, line: usize, call: Call, why: Why, names: &Names) -> io::Result<()> {
+fn tell_refusal(
+    rt: &LibcRuntime,
+    line: usize,
+    call: Call,
+    why: Why,
+    names: &Names,
+) -> io::Result<()> {
     let number = why.refusal.number();
     let place = why.refusal.place();
     match call {
-        Call::Press { choice } => println!(rt, "{line}: refused {number} place {place}; {}: {why}", ChoiceName { choice, name: names.choice(choice) }),
+        Call::Press { choice } => println!(
+            rt,
+            "{line}: refused {number} place {place}; {}: {why}",
+            ChoiceName {
+                choice,
+                name: names.choice(choice)
+            }
+        ),
         Call::Look => println!(rt, "{line}: refused {number} place {place}; looking: {why}"),
-        Call::Openings => println!(rt, "{line}: refused {number} place {place}; asking for openings: {why}"),
+        Call::Openings => println!(
+            rt,
+            "{line}: refused {number} place {place}; asking for openings: {why}"
+        ),
     }
 }
 
-fn tell_closed(rt: &LibcRuntime, line: usize, run: &ClosedRun<Table>, names: &Names) -> io::Result<()> {
+fn tell_closed(
+    rt: &LibcRuntime,
+    line: usize,
+    run: &ClosedRun<Table>,
+    names: &Names,
+) -> io::Result<()> {
     let cells = run.row();
     let moved = run.moved();
     let refused = run.refused();
-    println!(rt, "{line}: closed {} moved {moved} refused {refused}; {}", Cells(cells), RowName(names.row(cells)))
+    println!(
+        rt,
+        "{line}: closed {} moved {moved} refused {refused}; {}",
+        Cells(cells),
+        RowName(names.row(cells))
+    )
 }
 
 // A call with a buffer of this length, which is filled with a number that no row of the table has.
 fn exchange_of(heap: Global, call: Call, length: usize) -> Result<Exchange, AllocError> {
-    Ok(Exchange { call, buffer: vec![in heap; 65535u16; length]?, reply: None })
+    Ok(Exchange {
+        call,
+        buffer: vec![in heap; 65535u16; length]?,
+        reply: None,
+    })
 }
 
 impl Session {
@@ -114,19 +188,36 @@ impl Session {
         let process = self.draft.table(rt.alloc())?;
         let width = process.width();
         let choices = process.choices();
+        let names = self.draft.names(rt.alloc())?;
         let run = Run::open(process);
         let mut buffer = vec![in rt.alloc(); 0u16; width]?;
         let _ = run.look(&mut buffer);
         let cells: &[u16] = &buffer;
-        println!(rt, "{line}: opened {}; {}", Cells(cells), RowName(self.draft.names.row(cells)))?;
-        self.run = Some(OpenRun { run, width, choices });
+        println!(
+            rt,
+            "{line}: opened {}; {}",
+            Cells(cells),
+            RowName(names.row(cells))
+        )?;
+        self.run = Some(OpenRun {
+            run,
+            width,
+            choices,
+            names,
+        });
         Ok(())
     }
 }
 
 impl Session {
     // Makes the call on the open run, or notes it for the rehearsal.
-    fn make(&mut self, rt: &LibcRuntime, line: usize, call: Call, length: Option<usize>) -> io::Result<()> {
+    fn make(
+        &mut self,
+        rt: &LibcRuntime,
+        line: usize,
+        call: Call,
+        length: Option<usize>,
+    ) -> io::Result<()> {
         let heap = rt.alloc();
         if let Some(list) = &mut self.rehearsal {
             let width = self.draft.table(heap)?.width();
@@ -137,7 +228,7 @@ impl Session {
             Some(open) => {
                 let mut exchange = exchange_of(heap, call, length.unwrap_or(open.width))?;
                 make(&mut open.run, &mut exchange);
-                tell_exchange(rt, line, &exchange, open.width, open.choices, &self.draft.names)
+                tell_exchange(rt, line, &exchange, open.width, open.choices, &open.names)
             }
             None => println!(rt, "{line}: bad; no run is open, so open one first"),
         }
@@ -146,9 +237,14 @@ impl Session {
     fn close(&mut self, rt: &LibcRuntime, line: usize) -> io::Result<()> {
         match self.run.take() {
             Some(open) => {
-                let OpenRun { run, width: _, choices: _ } = open;
+                let OpenRun {
+                    run,
+                    width: _,
+                    choices: _,
+                    names,
+                } = open;
                 let closed = run.close();
-                tell_closed(rt, line, &closed, &self.draft.names)
+                tell_closed(rt, line, &closed, &names)
             }
             None => println!(rt, "{line}: bad; no run is open, so open one first"),
         }
@@ -169,7 +265,12 @@ impl Session {
     }
 }
 
-fn hold(rt: &LibcRuntime, line: usize, draft: &Draft, list: Vec<(usize, Exchange)>) -> io::Result<()> {
+fn hold(
+    rt: &LibcRuntime,
+    line: usize,
+    draft: &Draft,
+    list: Vec<(usize, Exchange)>,
+) -> io::Result<()> {
     let heap = rt.alloc();
     let mut lines: Vec<usize> = Vec::new(heap);
     let mut exchanges: Vec<Exchange> = Vec::new(heap);
@@ -180,13 +281,14 @@ fn hold(rt: &LibcRuntime, line: usize, draft: &Draft, list: Vec<(usize, Exchange
     let process = draft.table(heap)?;
     let width = process.width();
     let choices = process.choices();
+    let names = draft.names(heap)?;
     let book = ListedBook::new(&draft.cells, draft.width);
     let done = rehearse(process, &book, &mut exchanges);
     tell_verdict(rt, line, done.verdict)?;
     for (number, exchange) in lines.iter().zip(exchanges.iter()) {
-        tell_exchange(rt, *number, exchange, width, choices, &draft.names)?;
+        tell_exchange(rt, *number, exchange, width, choices, &names)?;
     }
-    tell_closed(rt, line, &done.run, &draft.names)
+    tell_closed(rt, line, &done.run, &names)
 }
 
 impl Session {
@@ -198,9 +300,20 @@ impl Session {
                 let process = self.draft.table(rt.alloc())?;
                 let width = process.width();
                 let choices = process.choices();
-                println!(rt, "{line}: good width {width} choices {choices}; a table of {rows} rows and {arcs} arcs")
+                println!(
+                    rt,
+                    "{line}: good width {width} choices {choices}; a table of {rows} rows and {arcs} arcs"
+                )
             }
-            Err(_) => println!(rt, "{line}: refused"),
+            Err(fault) => {
+                let number = fault.number();
+                let place = fault.place();
+                println!(
+                    rt,
+                    "{line}: refused {number} place {place}; {}",
+                    TableWords(fault)
+                )
+            }
         }
     }
 
@@ -208,11 +321,17 @@ impl Session {
         let width = self.draft.width;
         let cells = self.draft.cells.len();
         match book::examine(&self.draft.cells, width) {
-            Ok(count) => println!(rt, "{line}: good width {width} rows {count}; a listing of {cells} cells"),
+            Ok(count) => println!(
+                rt,
+                "{line}: good width {width} rows {count}; a listing of {cells} cells"
+            ),
             Err(fault) => {
                 let number = fault.number();
                 let place = fault.place();
-                println!(rt, "{line}: refused {number} place {place}; {cells} cells are no whole rows of width {width}, of 1 to 512 cells, at most 65535 of them")
+                println!(
+                    rt,
+                    "{line}: refused {number} place {place}; {cells} cells at width {width}: a listing has 1 to 512 cells a row, whole rows, and at most 65535 of them"
+                )
             }
         }
     }
@@ -264,10 +383,16 @@ impl Session {
     /// Says what is left open where the script ends.
     pub fn finish(&self, rt: &LibcRuntime, line: usize) -> io::Result<()> {
         if self.rehearsal.is_some() {
-            println!(rt, "{line}: bad; the script ends within a rehearsal, which is not held")?;
+            println!(
+                rt,
+                "{line}: bad; the script ends within a rehearsal, which is not held"
+            )?;
         }
         if self.run.is_some() {
-            println!(rt, "{line}: bad; the script ends while a run is open, which is not closed")?;
+            println!(
+                rt,
+                "{line}: bad; the script ends while a run is open, which is not closed"
+            )?;
         }
         Ok(())
     }

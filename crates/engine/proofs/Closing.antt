@@ -23,11 +23,11 @@ none-of None b e = (refl, e)
 pub none-below : {X : Type 0} (f : ℕ → Option X) (n k : ℕ) → first-below f n ≡ None → k < n → f k ≡ None
 none-below f zero k e h = absurd (omega arith)
 none-below f (suc n) k e h =
-  let p = none-of _ _ e in
-  elim (cases-lt k n) [
-    inl l ↦ none-below f n k (p .0) l
-  | inr g ↦ let same : n ≡ k = omega arith in subst (λ i. f i ≡ None) same (p .1)
-  ]
+    let p = none-of _ _ e in
+    elim (cases-lt k n) [
+      | inl l ↦ none-below f n k (p .0) l
+      | inr g ↦ let same : n ≡ k = omega arith in subst (λ i. f i ≡ None) same (p .1)
+    ]
 
 pub below-none : {X : Type 0} (f : ℕ → Option X) (n : ℕ) → ((k : ℕ) → k < n → f k ≡ None) → first-below f n ≡ None
 below-none f zero h = refl
@@ -35,7 +35,7 @@ below-none f (suc n) h = ap (λ o. or-else o (f n)) (below-none f n (λ k l. h k
 
 -- each test that a verdict passed
 accepted-parts : (a b : Bool) (o : Option FaultAt) (k n : ℕ) → cond a (cond b (or-accepts o k) (faults (fault-at 14 0 0))) (faults (fault-at 13 0 0)) ≡ accepts n →
-  (a ≡ true) × (b ≡ true) × (o ≡ None)
+    (a ≡ true) × (b ≡ true) × (o ≡ None)
 accepted-parts false b o k n e = (cc, cc, cc)
 accepted-parts true false o k n e = (cc, cc, cc)
 accepted-parts true true (Some f) k n e = (refl, refl, cc)
@@ -51,18 +51,18 @@ led-parts false f e = cc
 
 pub accepted-closed : (m : Meaning) (l : Listing) → Accepts m l → Closed m l
 accepted-closed m l a =
-  let p = accepted-parts _ _ _ _ _ (a .1) in
-  let row : (i : ℕ) → i < length (l .rows) → (m .safe (row-at l i) ≡ true) × (first-below (choice-fault m l i (row-at l i)) (m .choices) ≡ None) =
+    let p = accepted-parts _ _ _ _ _ (a .1) in
+    let row : (i : ℕ) → i < length (l .rows) → (m .safe (row-at l i) ≡ true) × (first-below (choice-fault m l i (row-at l i)) (m .choices) ≡ None) =
     λ i h. row-parts _ _ _ (none-below (row-fault m l) (length (l .rows)) i (p .2) h) in
-  record {
-    start = among-in _ _ (p .1);
-    safe = λ r q. ap (m .safe) (sym (q .2)) ∙ row (q .0) (q .1) .0;
-    stays = λ r s c q h f.
-      let i = q .0 in
-      let none = none-below _ (m .choices) c (row i (q .1) .1) h in
-      let next : m .next (row-at l i) c ≡ Some s = ap (λ (x : Row). m .next x c) (q .2) ∙ f in
-      among-in s (l .rows) (led-parts _ _ (sym (ap (led-out l i c) next) ∙ none));
-  }
+    record {
+      start = among-in _ _ (p .1);
+      safe = λ r q. ap (m .safe) (sym (q .2)) ∙ row (q .0) (q .1) .0;
+      stays = λ r s c q h f.
+          let i = q .0 in
+          let none = none-below _ (m .choices) c (row i (q .1) .1) h in
+          let next : m .next (row-at l i) c ≡ Some s = ap (λ (x : Row). m .next x c) (q .2) ∙ f in
+          among-in s (l .rows) (led-parts _ _ (sym (ap (led-out l i c) next) ∙ none));
+    }
 
 -- a book that holds the start row has the width of the process
 pub closed-width : (m : Meaning) (l : Listing) → Lawful m → IsBook l → In l (m .start) → l .width ≡ m .width
@@ -74,13 +74,13 @@ no-fault l i c (Some s) h = cond-true _ _ _ (h s refl)
 
 pub closed-is : (m : Meaning) (l : Listing) → Lawful m → IsBook l → Closed m l → verdict m l ≡ accepts (moves-in m l (length (l .rows)))
 closed-is m l w b d =
-  let in-rows : (i : ℕ) → i < length (l .rows) → In l (row-at l i) = λ i h. (i, h, refl) in
-  let held : (s : Row) → In l s → among s (l .rows) ≡ true = λ s p. in-among s (l .rows) (p .0) (p .1) (p .2) in
-  let choice : (i : ℕ) → i < length (l .rows) → (c : ℕ) → c < m .choices → choice-fault m l i (row-at l i) c ≡ None =
+    let in-rows : (i : ℕ) → i < length (l .rows) → In l (row-at l i) = λ i h. (i, h, refl) in
+    let held : (s : Row) → In l s → among s (l .rows) ≡ true = λ s p. in-among s (l .rows) (p .0) (p .1) (p .2) in
+    let choice : (i : ℕ) → i < length (l .rows) → (c : ℕ) → c < m .choices → choice-fault m l i (row-at l i) c ≡ None =
     λ i h c k. no-fault l i c (m .next (row-at l i) c) (λ s e. held s (d .stays (row-at l i) s c (in-rows i h) k e)) in
-  let row : (i : ℕ) → i < length (l .rows) → row-fault m l i ≡ None =
+    let row : (i : ℕ) → i < length (l .rows) → row-fault m l i ≡ None =
     λ i h. cond-true _ _ _ (d .safe (row-at l i) (in-rows i h)) ∙ below-none _ (m .choices) (choice i h) in
-  cond-true _ _ _ (eq-eqb _ _ (closed-width m l w b (d .start))) ∙ cond-true _ _ _ (held (m .start) (d .start))
+    cond-true _ _ _ (eq-eqb _ _ (closed-width m l w b (d .start))) ∙ cond-true _ _ _ (held (m .start) (d .start))
     ∙ ap (λ o. or-accepts o (moves-in m l (length (l .rows)))) (below-none (row-fault m l) (length (l .rows)) row)
 
 pub accepted-iff : (m : Meaning) (l : Listing) → Lawful m → IsBook l → Accepts m l ↔ Closed m l

@@ -35,7 +35,7 @@ step-path barred = stay
 step-path (forward c l e) = step c l e stay
 
 step-tallies : {m : Meaning} {t u : Stand} {cs : List ℕ} {x y : Bool} → Tallied t → Step m t cs x y u →
-  (u .moved ≡ min (t .moved + cond x 1 0) 4294967295) × (u .refused ≡ min (t .refused + cond y 1 0) 4294967295)
+    (u .moved ≡ min (t .moved + cond x 1 0) 4294967295) × (u .refused ≡ min (t .refused + cond y 1 0) 4294967295)
 step-tallies k still = let a = k .moved in let b = k .refused in (omega arith, omega arith)
 step-tallies k barred = let a = k .moved in let b = k .refused in (omega arith, omega arith)
 step-tallies k (forward c l e) = let a = k .moved in let b = k .refused in (omega arith, omega arith)
@@ -43,22 +43,22 @@ step-tallies k (forward c l e) = let a = k .moved in let b = k .refused in (omeg
 from-made : (m : Meaning) (s : Stand) (es : List Entry) → Tallied s → From m s (all-made m s es) (stand-all-made m s es)
 from-made m s [] k = let a = k .moved in let b = k .refused in record { path = stay; moved = omega arith; refused = omega arith }
 from-made m s (e ∷ es) k =
-  let here = call-step m s (e .buffer) (e .call) in
-  let u = stand-made m s e in
-  let t = step-tallies k here in
-  let t0 = t .0 in
-  let t1 = t .1 in
-  let rest = from-made m u es (record { moved = omega arith; refused = omega arith }) in
-  let r0 = rest .moved in
-  let r1 = rest .refused in
-  record { path = path-join (step-path here) (rest .path); moved = omega arith; refused = omega arith }
+    let here = call-step m s (e .buffer) (e .call) in
+    let u = stand-made m s e in
+    let t = step-tallies k here in
+    let t0 = t .0 in
+    let t1 = t .1 in
+    let rest = from-made m u es (record { moved = omega arith; refused = omega arith }) in
+    let r0 = rest .moved in
+    let r1 = rest .refused in
+    record { path = path-join (step-path here) (rest .path); moved = omega arith; refused = omega arith }
 
 stood-made : (m : Meaning) (es : List Entry) → Stood m (all-made m (opened m) es) (stand-all-made m (opened m) es)
 stood-made m es =
-  let f = from-made m (opened m) es (record { moved = omega arith; refused = omega arith }) in
-  let a = f .moved in
-  let b = f .refused in
-  record { path = f .path; moved = omega arith; refused = omega arith }
+    let f = from-made m (opened m) es (record { moved = omega arith; refused = omega arith }) in
+    let a = f .moved in
+    let b = f .refused in
+    record { path = f .path; moved = omega arith; refused = omega arith }
 
 made-length : (m : Meaning) (s : Stand) (es : List Entry) → length (all-made m s es) ≡ length es
 made-length m s [] = refl
@@ -77,60 +77,61 @@ getD-made m s (e ∷ es) (suc n) d h = getD-made m (stand-made m s e) es n d (om
 
 pub running : (m : Meaning) → Lawful m → (given : List Entry) → Running m given (all-made m (opened m) given) (stand-all-made m (opened m) given)
 running m w given = record {
-    count = made-length m (opened m) given;
-    stood = λ n h. (at n, before n);
-    answered = λ n h row p d.
+  count = made-length m (opened m) given;
+  stood = λ n h. (at n, before n);
+  answered = λ n h row p d.
       let long = made-length m (opened m) given in
       let here = path-one (before n .path) p in
       let b = reach-row m w row (path-reach at-start p) .long in
       subst (λ (x : Entry). Answered m row (getD given n d) x) (sym (getD-made m (opened m) given n d (omega arith)))
-        (subst (λ (r : Row). Answered m r (getD given n d) (made m (at n) (getD given n d))) here
-          (made-answered m (at n) (getD given n d) (ap length here ∙ b)));
-    ended = stood-made m given;
-  }
+      (subst (λ (r : Row). Answered m r (getD given n d) (made m (at n) (getD given n d))) here
+      (made-answered m (at n) (getD given n d) (ap length here ∙ b)));
+  ended = stood-made m given;
+}
   where
     at : ℕ → Stand
     at n = stand-all-made m (opened m) (take n given)
+
     before : (n : ℕ) → Stood m (take n (all-made m (opened m) given)) (at n)
     before n = subst (λ (xs : List Entry). Stood m xs (at n)) (sym (take-made m (opened m) given n)) (stood-made m (take n given))
 
 stood-one : {m : Meaning} {done : List Entry} {s t : Stand} → Stood m done s → Stood m done t → s ≡ t
 stood-one {m} {done} {s} {t} p q =
-  let r = path-one (p .path) (q .path) in
-  let a = p .moved ∙ sym (q .moved) in
-  let b = p .refused ∙ sym (q .refused) in
-  let e : _≡_ {A = Stand} (record { row = s .row; moved = s .moved; refused = s .refused }) (record { row = t .row; moved = t .moved; refused = t .refused }) = cc in e
+    let r = path-one (p .path) (q .path) in
+    let a = p .moved ∙ sym (q .moved) in
+    let b = p .refused ∙ sym (q .refused) in
+    let e : _≡_ {A = Stand} (record { row = s .row; moved = s .moved; refused = s .refused }) (record { row = t .row; moved = t .moved; refused = t .refused }) = cc in e
 
 entry-one : (m : Meaning) (row : Row) (given e f : Entry) → Answered m row given e → Answered m row given f → e ≡ f
 entry-one m row given e f p q =
-  let a = answers-one (p .answers) (q .answers) in
-  let c = p .call ∙ sym (q .call) in
-  let n = p .noted ∙ ap Some (a .0) ∙ sym (q .noted) in
-  let b = a .1 in
-  let s : _≡_ {A = Entry} (record { call = e .call; buffer = e .buffer; answer = e .answer }) (record { call = f .call; buffer = f .buffer; answer = f .answer }) = cc in s
+    let a = answers-one (p .answers) (q .answers) in
+    let c = p .call ∙ sym (q .call) in
+    let n = p .noted ∙ ap Some (a .0) ∙ sym (q .noted) in
+    let b = a .1 in
+    let s : _≡_ {A = Entry} (record { call = e .call; buffer = e .buffer; answer = e .answer }) (record { call = f .call; buffer = f .buffer; answer = f .answer }) = cc in s
 
 module _ (m : Meaning) (given done done′ : List Entry) (end end′ : Stand) (p : Running m given done end) (q : Running m given done′ end′) where
   fronts : (n : ℕ) → n ≤ length done → take n done ≡ take n done′
   fronts zero h = refl
   fronts (suc n) h =
-    let a = p .count in
-    let b = q .count in
-    let low : n < length done = omega arith in
-    let low′ : n < length done′ = omega arith in
-    let same = fronts n (omega arith) in
-    let d : Entry = record { call = Look; buffer = []; answer = None } in
-    let here = p .stood n (omega arith) in
-    let path = here .1 .path in
-    let x = p .answered n low (here .0 .row) path d in
-    let y = q .answered n low′ (here .0 .row) (subst (λ (xs : List Entry). Path m (m .start) (moved-choices xs) (here .0 .row)) same path) d in
-    take-suc done n d low ∙ ap (λ (xs : List Entry). xs ++ getD done n d ∷ []) same
+      let a = p .count in
+      let b = q .count in
+      let low : n < length done = omega arith in
+      let low′ : n < length done′ = omega arith in
+      let same = fronts n (omega arith) in
+      let d : Entry = record { call = Look; buffer = []; answer = None } in
+      let here = p .stood n (omega arith) in
+      let path = here .1 .path in
+      let x = p .answered n low (here .0 .row) path d in
+      let y = q .answered n low′ (here .0 .row) (subst (λ (xs : List Entry). Path m (m .start) (moved-choices xs) (here .0 .row)) same path) d in
+      take-suc done n d low ∙ ap (λ (xs : List Entry). xs ++ getD done n d ∷ []) same
       ∙ ap (λ (e : Entry). take n done′ ++ e ∷ []) (entry-one m (here .0 .row) (getD given n d) (getD done n d) (getD done′ n d) x y) ∙ sym (take-suc done′ n d low′)
 
   pub alone : (done′ ≡ done) × (end′ ≡ end)
   alone =
-    let a = p .count in
-    let b = q .count in
-    let c : length done ≤ length done = omega arith in
-    let d : length done′ ≤ length done = omega arith in
-    let same : done ≡ done′ = sym (take-all (length done) done c) ∙ fronts (length done) c ∙ take-all (length done) done′ d in
-    (sym same, stood-one (q .ended) (subst (λ (xs : List Entry). Stood m xs end) same (p .ended)))
+      let a = p .count in
+      let b = q .count in
+      let c : length done ≤ length done = omega arith in
+      let d : length done′ ≤ length done = omega arith in
+      let same : done ≡ done′ = sym (take-all (length done) done c) ∙ fronts (length done) c ∙ take-all (length done) done′ d in
+      (sym same, stood-one (q .ended) (subst (λ (xs : List Entry). Stood m xs end) same (p .ended)))

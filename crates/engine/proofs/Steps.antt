@@ -34,7 +34,7 @@ abbrev by-tests : Bool → Bool → Bool → Option Row → Row → Outcome
 by-tests p q h o b = cond p (cond q (cond h (next-or o b) (refused 21 b)) (refused 20 b)) (refused 20 b)
 
 press-step : (m : Meaning) (t : Stand) (c : ℕ) (b : Row) (p q h : Bool) (o : Option Row) → (h ≡ true → c < m .choices) → m .next (t .row) c ≡ o →
-  Steps m t (Press c) (reply-by (λ _. Moved) (by-tests p q h o b .answer)) (after-press (by-tests p q h o b .answer) (by-tests p q h o b .left) t)
+    Steps m t (Press c) (reply-by (λ _. Moved) (by-tests p q h o b .answer)) (after-press (by-tests p q h o b .answer) (by-tests p q h o b .left) t)
 press-step m t c b false q h o l e = still
 press-step m t c b true false h o l e = still
 press-step m t c b true true false o l e = barred
@@ -55,7 +55,7 @@ call-step m t b Look = look-step m t b (eqb (length b) (m .width))
 call-step m t b Openings = openings-step m t (openings-at m (t .row)) (eqb (length b) (m .width))
 
 press-answers : (m : Meaning) (r : Row) (c : ℕ) (b : Row) (p q h : Bool) (o : Option Row) → p ≡ true → eqb (length b) (m .width) ≡ q → ltb c (m .choices) ≡ h → m .next r c ≡ o →
-  Answers m r (Press c) b (reply-by (λ _. Moved) (by-tests p q h o b .answer)) (by-tests p q h o b .left)
+    Answers m r (Press c) b (reply-by (λ _. Moved) (by-tests p q h o b .answer)) (by-tests p q h o b .left)
 press-answers m r c b false q h o x y z e = absurd (false≢true x)
 press-answers m r c b true false h o x y z e = wrong-length (eqb-false _ _ y)
 press-answers m r c b true true false o x y z e = no-such-choice c (eqb-true _ _ y) (ltb-false _ _ z)
@@ -63,19 +63,19 @@ press-answers m r c b true true true None x y z e = not-allowed c (eqb-true _ _ 
 press-answers m r c b true true true (Some s) x y z e = moves c (eqb-true _ _ y) (ltb-true _ _ z) e
 
 look-answers : (m : Meaning) (r b : Row) (q : Bool) → eqb (length b) (m .width) ≡ q →
-  Answers m r Look b (reply-by (λ _. Shown) (cond q (wrote r) (refused 20 b) .answer)) (cond q (wrote r) (refused 20 b) .left)
+    Answers m r Look b (reply-by (λ _. Shown) (cond q (wrote r) (refused 20 b) .answer)) (cond q (wrote r) (refused 20 b) .left)
 look-answers m r b true y = shows (eqb-true _ _ y)
 look-answers m r b false y = wrong-length (eqb-false _ _ y)
 
 openings-answers : (m : Meaning) (r b : Row) (q : Bool) → eqb (length b) (m .width) ≡ q →
-  Answers m r Openings b (reply-by Counted (cond q (gives (openings-at m r)) (refuses 20 0))) (cond q (wrote r) (refused 20 b) .left)
+    Answers m r Openings b (reply-by Counted (cond q (gives (openings-at m r)) (refuses 20 0))) (cond q (wrote r) (refused 20 b) .left)
 openings-answers m r b true y = counts (eqb-true _ _ y)
 openings-answers m r b false y = wrong-length (eqb-false _ _ y)
 
 -- each call is answered by a rule
 call-answers : (m : Meaning) (t : Stand) (b : Row) (k : Call) → length (t .row) ≡ m .width → Answers m (t .row) k b (answer-to m t b k) (left-after m t b k)
 call-answers m t b (Press c) w =
-  press-answers m (t .row) c b (eqb (length (t .row)) (m .width)) (eqb (length b) (m .width)) (ltb c (m .choices)) (m .next (t .row) c) (eq-eqb _ _ w) refl refl refl
+    press-answers m (t .row) c b (eqb (length (t .row)) (m .width)) (eqb (length b) (m .width)) (ltb c (m .choices)) (m .next (t .row) c) (eq-eqb _ _ w) refl refl refl
 call-answers m t b Look w = look-answers m (t .row) b (eqb (length b) (m .width)) refl
 call-answers m t b Openings w = openings-answers m (t .row) b (eqb (length b) (m .width)) refl
 

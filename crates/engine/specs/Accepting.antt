@@ -43,7 +43,7 @@ pub data Finds (m : Meaning) (l : Listing) : Finding → Type 0 where
   start-not-held : l .width ≡ m .width → (In l (m .start) → ⊥) → Finds m l (faults (fault-at 14 0 0))
   unsafe-row : (i : ℕ) → SoundTo m l i → m .safe (row-at l i) ≡ false → Finds m l (faults (fault-at 15 i 0))
   leads-out : (i c : ℕ) (s : Row) → SoundTo m l i → m .safe (row-at l i) ≡ true → c < m .choices →
-    ((b : ℕ) → b < c → StaysBy m l (row-at l i) b) → m .next (row-at l i) c ≡ Some s → (In l s → ⊥) → Finds m l (faults (fault-at 16 i c))
+      ((b : ℕ) → b < c → StaysBy m l (row-at l i) b) → m .next (row-at l i) c ≡ Some s → (In l s → ⊥) → Finds m l (faults (fault-at 16 i c))
 
 -- what inspection found of this book, and what it finds of any book
 pub record Accepting (m : Meaning) (l : Listing) (found : Finding) : Type 0 where

@@ -23,12 +23,19 @@ pub struct Rehearsal<P: Process> {
 
 /// Inspects the book, opens a run of the process, makes the calls one after the other, each with its own buffer, and
 /// closes the run. The exchanges then have the replies. The book's verdict does not stop the run.
-pub fn rehearse<P: Process + Drop, B: Book>(process: P, book: &B, exchanges: &mut [Exchange]) -> Rehearsal<P>
+pub fn rehearse<P: Process + Drop, B: Book>(
+    process: P,
+    book: &B,
+    exchanges: &mut [Exchange],
+) -> Rehearsal<P>
     ensures same { λ r. ⌜ r .run .process ≡ process ⌝ }
     ensures law { λ r. ⌜ Law (meaning process) (listing (now (book .entry))) (told (r .verdict)) (map entry-of (now (exchanges .entry))) (map entry-of (now (exchanges .exit))) (closed-stands meaning (r .run)) ⌝ }
 {
     let verdict = inspect(&process, book);
     let mut run = Run::open(process);
     make_all(&mut run, exchanges);
-    Rehearsal { verdict, run: run.close() }
+    Rehearsal {
+        verdict,
+        run: run.close(),
+    }
 }

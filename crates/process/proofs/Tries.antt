@@ -33,7 +33,7 @@ sum-more f n = rw add-one
 
 -- an answer that gives something comes from a next row, which the buffer then holds; a refusal from none
 by-answer : (o : Option Row) (b new : Row) (a : Result Unit Refusal) → told a ≡ next-or o b .answer → new ≡ next-or o b .left →
-  (isOk a ≡ true → o ≡ Some new) × (isOk a ≡ false → o ≡ None)
+    (isOk a ≡ true → o ≡ Some new) × (isOk a ≡ false → o ≡ None)
 by-answer (Some s) b new (Ok u) e l = (λ t. ap Some (sym l), λ f. cc)
 by-answer (Some s) b new (Err w) e l = (λ t. cc, λ f. cc)
 by-answer None b new (Ok u) e l = (λ t. cc, λ f. cc)
@@ -41,10 +41,10 @@ by-answer None b new (Err w) e l = (λ t. cc, λ f. refl)
 
 -- the same of a call of `next` with buffers of the width
 pub next-told : (m : Meaning) (r b new : Row) (c : ℕ) (a : Result Unit Refusal) → length r ≡ m .width → length b ≡ m .width → c < m .choices →
-  told a ≡ next-outcome m r c b .answer → new ≡ next-outcome m r c b .left → (isOk a ≡ true → m .next r c ≡ Some new) × (isOk a ≡ false → m .next r c ≡ None)
+    told a ≡ next-outcome m r c b .answer → new ≡ next-outcome m r c b .left → (isOk a ≡ true → m .next r c ≡ Some new) × (isOk a ≡ false → m .next r c ≡ None)
 next-told m r b new c a p q h e f =
-  let is = tried m r b c p q h in
-  by-answer (m .next r c) b new a (e ∙ ap (λ (o : Outcome). o .answer) is) (f ∙ ap (λ (o : Outcome). o .left) is)
+    let is = tried m r b c p q h in
+    by-answer (m .next r c) b new a (e ∙ ap (λ (o : Outcome). o .answer) is) (f ∙ ap (λ (o : Outcome). o .left) is)
 
 -- a row that can be reached is a row
 pub reach-row : (m : Meaning) → Lawful m → (r : Row) → Reachable m r → IsRow (m .width) r

@@ -41,6 +41,6 @@ next-or None b = refused 22 b
 
 abbrev pub next-outcome : Meaning → Row → ℕ → Row → Outcome
 next-outcome m r c b =
-  cond (eqb (length r) (m .width))
+    cond (eqb (length r) (m .width))
     (cond (eqb (length b) (m .width)) (cond (ltb c (m .choices)) (next-or (m .next r c) b) (refused 21 b)) (refused 20 b))
     (refused 20 b)

@@ -24,13 +24,13 @@ gave-width m r b c e = grind (arith, eqb-true (length b) (m .width))
 
 -- what was given stands in the first cells, once they begin with it
 pub gave-row : (m : Meaning) (r b cells new rest : Row) (c : ℕ) (a : Result Unit Refusal) → told a ≡ next-outcome m r c b .answer → isOk a ≡ true → length new ≡ length b →
-  cells ≡ new ++ rest → take (m .width) cells ≡ row-after (told a) new r
+    cells ≡ new ++ rest → take (m .width) cells ≡ row-after (told a) new r
 gave-row m r b cells new rest c a e ok long is =
-  let gave = ok-gives a ok in
-  let w = gave-width m r b c (sym gave ∙ e) in
-  ap (take (m .width)) is ∙ take-at new rest (m .width) (long ∙ w) ∙ sym (ap (λ x. row-after x new r) gave)
+    let gave = ok-gives a ok in
+    let w = gave-width m r b c (sym gave ∙ e) in
+    ap (take (m .width)) is ∙ take-at new rest (m .width) (long ∙ w) ∙ sym (ap (λ x. row-after x new r) gave)
 
 -- cells that begin with the start row
 pub opened-at : (m : Meaning) (new rest : Row) (a b : ℕ) → length new ≡ m .width → new ≡ m .start → a ≡ 0 → b ≡ 0 →
-  _≡_ {A = Stand} (record { row = take (m .width) (new ++ rest); moved = a; refused = b }) (opened m)
+    _≡_ {A = Stand} (record { row = take (m .width) (new ++ rest); moved = a; refused = b }) (opened m)
 opened-at m new rest a b long is p q = let row = take-at new rest (m .width) long in cc

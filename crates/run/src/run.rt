@@ -37,8 +37,12 @@ impl<P: Process> Run<P> {
         match answer {
             Ok(()) => self.standing.moved = self.standing.moved.saturating_add(1),
             Err(Refusal::WrongLength) => {}
-            Err(Refusal::NoSuchChoice) => self.standing.refused = self.standing.refused.saturating_add(1),
-            Err(Refusal::NotAllowed) => self.standing.refused = self.standing.refused.saturating_add(1),
+            Err(Refusal::NoSuchChoice) => self.standing.refused = self.standing
+                .refused
+                .saturating_add(1),
+            Err(Refusal::NotAllowed) => self.standing.refused = self.standing
+                .refused
+                .saturating_add(1),
         }
         answer
     }

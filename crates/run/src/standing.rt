@@ -21,7 +21,11 @@ impl Standing {
         ensures moved { λ r. ⌜ r .moved ≡ 0 ⌝ }
         ensures refused { λ r. ⌜ r .refused ≡ 0 ⌝ }
     {
-        Standing { cells: [0; 512], moved: 0, refused: 0 }
+        Standing {
+            cells: [0; 512],
+            moved: 0,
+            refused: 0,
+        }
     }
 
     /// Where a run of the process begins.
@@ -54,7 +58,12 @@ impl Standing {
     }
 
     /// Tries the choice from here: the row becomes the next one, unless the choice is refused.
-    pub(crate) fn attempt<P: Process>(&mut self, process: &P, choice: usize, out: &mut [u16]) -> Result<(), Refusal>
+    pub(crate) fn attempt<P: Process>(
+        &mut self,
+        process: &P,
+        choice: usize,
+        out: &mut [u16],
+    ) -> Result<(), Refusal>
         ensures answer { λ r. ⌜ told r ≡ next-outcome (meaning (now (process .entry))) (stand-of (meaning (now (process .entry))) (now (self .entry)) .row) choice (now (out .entry)) .answer ⌝ }
         ensures left { λ _. ⌜ now (out .exit) ≡ next-outcome (meaning (now (process .entry))) (stand-of (meaning (now (process .entry))) (now (self .entry)) .row) choice (now (out .entry)) .left ⌝ }
         ensures row { λ r. ⌜ stand-of (meaning (now (process .entry))) (now (self .exit)) .row ≡ row-after (told r) (now (out .exit)) (stand-of (meaning (now (process .entry))) (now (self .entry)) .row) ⌝ }

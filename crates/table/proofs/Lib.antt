@@ -1,2 +1,4 @@
 mod Scans
 mod Laws
+mod Leadings
+mod Makings

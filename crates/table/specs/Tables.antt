@@ -6,11 +6,11 @@ use Prim.Native.Nat.{ℕ, _+_, max}
 use lib.ListN.{length, getD}
 use lib.Dec.{eqb}
 use Rattle.std.specs.Options.{mapped}
-use Rattle.std.specs.Results.{isOk}
 use Rattle.std.specs.declared.option.Option.{Option}
 use Rattle.std.specs.declared.option.Option.the-variants.{Some, None}
 use Rattle.process.specs.Meaning.{Meaning, Row}
 use Rattle.table.specs.declared.arc.Arc.{Arc}
+use Rattle.table.specs.Faults.{gave}
 use Rattle.table.specs.Examination.{examined}
 
 -- the largest choice of the arcs, 0 without arcs
@@ -66,6 +66,10 @@ pub record Blank (m : Meaning) : Type 0 where
   pub safe : (r : Row) → m .safe r ≡ false
   pub next : (r : Row) (c : ℕ) → m .next r c ≡ None
 
+-- what a table keeps of a list: all of it, or nothing where it has a fault
+abbrev pub kept : {X : Type 0} → List Bool → List Arc → List X → List X
+kept rows arcs xs = cond (gave (examined rows arcs)) xs []
+
 -- a table with a fault means what one without rows does
 abbrev pub tabled : List Bool → List Arc → Meaning
-tabled rows arcs = cond (isOk (examined rows arcs)) (meaning-of rows arcs) (meaning-of [] [])
+tabled rows arcs = cond (gave (examined rows arcs)) (meaning-of rows arcs) (meaning-of [] [])

@@ -1,34 +1,38 @@
 //! Which lists make a table.
 ghost use mathlib.Core.Path.{_≡_};
-ghost use Rattle.table.specs.Examination.{fits, first-misfit, examined};
+ghost use Rattle.table.specs.Faults.{told};
+ghost use Rattle.table.specs.Examination.{ended, examined-arcs, examined};
 use crate::arc::Arc;
 use crate::table_fault::TableFault;
 
-// Whether the arc is one of a table of so many rows.
-fn is_fit(arc: Arc, rows: usize) -> bool
-    ensures { λ r. ⌜ r ≡ fits rows arc ⌝ }
+// Whether both ends of the arc are rows of a table of so many.
+fn is_ended(arc: Arc, rows: usize) -> bool
+    ensures { λ r. ⌜ r ≡ ended rows arc ⌝ }
 {
-    arc.choice <= 4095 && (arc.from as usize) < rows && (arc.to as usize) < rows
+    (arc.from as usize) < rows && (arc.to as usize) < rows
 }
 
-// The first arc that is none of a table of so many rows.
-fn find_misfit(arcs: &[Arc], rows: usize) -> Result<(), TableFault>
-    ensures { λ r. ⌜ r ≡ first-misfit rows 0 (now (arcs .entry)) ⌝ }
+// The first fault of the arcs of a table of so many rows.
+fn examine_arcs(arcs: &[Arc], rows: usize) -> Result<(), TableFault>
+    ensures { λ r. ⌜ told r ≡ examined-arcs rows 0 (now (arcs .entry)) ⌝ }
 {
     for (index, arc) in arcs.iter().enumerate() {
-        if !is_fit(*arc, rows) {
-            return Err(TableFault::Arc { index });
+        if arc.choice > 4095 {
+            return Err(TableFault::Choice { arc: index });
+        }
+        if !is_ended(*arc, rows) {
+            return Err(TableFault::End { arc: index });
         }
     }
     Ok(())
 }
 
-/// The first fault: first the size, then the arcs in their order.
+/// The first fault: first the size, then the arcs in their order, of each its choice and then its ends.
 pub fn examine(safe: &[bool], arcs: &[Arc]) -> Result<(), TableFault>
-    ensures { λ r. ⌜ r ≡ examined (now (safe .entry)) (now (arcs .entry)) ⌝ }
+    ensures { λ r. ⌜ told r ≡ examined (now (safe .entry)) (now (arcs .entry)) ⌝ }
 {
     if safe.len() < 1 || safe.len() > 4096 || arcs.len() > 16384 {
         return Err(TableFault::Size);
     }
-    find_misfit(arcs, safe.len())
+    examine_arcs(arcs, safe.len())
 }

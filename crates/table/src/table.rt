@@ -4,8 +4,8 @@ ghost use mathlib.Core.Bool.{true};
 ghost use Prim.Native.Nat.{_≤_};
 ghost use lib.ListN.{length};
 ghost use Rattle.std.specs.Of.Vec.{vec-items};
-ghost use Rattle.std.specs.Results.{isOk};
-ghost use Rattle.table.specs.Examination.{first-misfit};
+ghost use Rattle.table.specs.Faults.{gave};
+ghost use Rattle.table.specs.Examination.{examined-arcs};
 ghost use Rattle.table.specs.Tables.{count-choices};
 use crate::arc::Arc;
 
@@ -20,6 +20,6 @@ pub struct Table {
     arcs: Vec<Arc>,
     choices: usize,
     ghost few: { length (vec-items safe) ≤ 4096 },
-    ghost fit: { isOk (first-misfit (length (vec-items safe)) 0 (vec-items arcs)) ≡ true },
+    ghost fit: { gave (examined-arcs (length (vec-items safe)) 0 (vec-items arcs)) ≡ true },
     ghost counted: { choices ≡ count-choices (vec-items arcs) },
 }

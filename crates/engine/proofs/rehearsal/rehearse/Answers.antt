@@ -20,6 +20,6 @@ returns g c =
     record {
       same = c .close .ensures .same ∙ makes .same ∙ opens .same;
       law = law m _ _ given _ _ (g .P·Process·met .lawful (c .args .process)) (found .lawful) (found .answer)
-        (makes .entries ∙ ap (λ (x : Meaning). all-made x s given) same ∙ ap (λ (x : Stand). all-made m x given) (opens .stand))
-        (c .close .ensures .stand ∙ makes .stand ∙ ap (λ (x : Meaning). stand-all-made x s given) same ∙ ap (λ (x : Stand). stand-all-made m x given) (opens .stand));
+          (makes .entries ∙ ap (λ (x : Meaning). all-made x s given) same ∙ ap (λ (x : Stand). all-made m x given) (opens .stand))
+          (c .close .ensures .stand ∙ makes .stand ∙ ap (λ (x : Meaning). stand-all-made x s given) same ∙ ap (λ (x : Stand). stand-all-made m x given) (opens .stand));
     }

@@ -20,10 +20,11 @@ loop-exchange-again g c =
     let after = c .make .last .run in
     let done = c .make .ensures in
     let same = c .loop-exchange .inv .0 in
-    let below : c .loop-exchange .exchange-index < length (c .loop-exchange .exchanges) = omega arith in
-    (done .same ∙ same,
-     making-more m (means f here) _ _ (c .loop-exchange .exchanges) _ (stands f here) (stands f after) (c .exchange-item .result) (c .make .last .exchange) (ap f (sym same))
-       (c .loop-exchange .inv .1) below (done .entry) (done .stand))
+    let below : c .loop-exchange .exchange-index < length (c .loop-exchange .exchanges) = omega arith in (
+      done .same ∙ same,
+      making-more m (means f here) _ _ (c .loop-exchange .exchanges) _ (stands f here) (stands f after) (c .exchange-item .result) (c .make .last .exchange) (ap f (sym same))
+          (c .loop-exchange .inv .1) below (done .entry) (done .stand),
+    )
 
 pub returns : need.returns
 returns g c =

@@ -9,4 +9,4 @@ abbrev pub Inv-loop-exchange : given.InvT-loop-exchange
 Inv-loop-exchange g l =
     (l .run .process ≡ l .entry .run .process)
     × Making (means (g .P·Process .meaning) (l .entry .run)) (stands (g .P·Process .meaning) (l .entry .run)) (map entry-of (l .entry .exchanges))
-      (map entry-of (l .exchanges)) (l .exchange-index) (stands (g .P·Process .meaning) (l .run))
+    (map entry-of (l .exchanges)) (l .exchange-index) (stands (g .P·Process .meaning) (l .run))

@@ -19,6 +19,6 @@ loop-choice-again g c =
     let ok = sym (c .is-ok .ensures .value) in
     let more = sum-more (λ k. one-if (m .next row k)) i in
     elim (c .if-is-ok .came) [
-      then-is-ok w ↦ let e = ap one-if (told .0 (ok ∙ w .if-is-ok .taken)) in (omega arith, omega arith)
-    | else-is-ok w ↦ let e = ap one-if (told .1 (ok ∙ w .if-is-ok .left)) in (omega arith, omega arith)
+      | then-is-ok w ↦ let e = ap one-if (told .0 (ok ∙ w .if-is-ok .taken)) in (omega arith, omega arith)
+      | else-is-ok w ↦ let e = ap one-if (told .1 (ok ∙ w .if-is-ok .left)) in (omega arith, omega arith)
     ]

@@ -18,7 +18,7 @@ returns-then-is-ok g c =
       answer = answer;
       left = c .next-answer .ensures .left ∙ ap (λ (o : Outcome). o .left) same;
       row = gave-row m (take (m .width) (s .cells)) out _ new (drop (length new) (s .cells)) (c .args .choice) (c .next-answer .result) answer
-        (sym (c .is-ok .ensures .value) ∙ c .if-is-ok .taken) (c .next-answer .kept .out) (c .set-row .ensures .cells);
+          (sym (c .is-ok .ensures .value) ∙ c .if-is-ok .taken) (c .next-answer .kept .out) (c .set-row .ensures .cells);
       moved = c .set-row .ensures .moved;
       refused = c .set-row .ensures .refused;
     }
