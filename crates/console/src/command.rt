@@ -5,7 +5,7 @@ use table::Arc;
 
 /// What a line asks for.
 #[derive(Drop)]
-pub enum Command<'a> {
+pub(crate) enum Command<'a> {
     /// The line is blank or a comment.
     Nothing,
     /// A new table begins.
@@ -37,7 +37,7 @@ pub enum Command<'a> {
 
 /// Why a line is not understood.
 #[derive(Drop)]
-pub enum Misread<'a> {
+pub(crate) enum Misread<'a> {
     NoSuchCommand { word: &'a str },
     Missing { what: &'static str },
     NotANumber { word: &'a str, most: usize },
@@ -76,7 +76,11 @@ fn cut(text: &str) -> (&str, &str) {
 }
 
 /// A number of at most so much.
-pub fn number<'a>(word: &'a str, most: usize, what: &'static str) -> Result<usize, Misread<'a>> {
+pub(crate) fn number<'a>(
+    word: &'a str,
+    most: usize,
+    what: &'static str,
+) -> Result<usize, Misread<'a>> {
     if word.is_empty() {
         return Err(Misread::Missing { what });
     }
@@ -188,7 +192,7 @@ fn alone<'a>(command: Command<'a>, rest: &'a str) -> Result<Command<'a>, Misread
 }
 
 /// What a line asks for.
-pub fn read<'a>(line: &'a str) -> Result<Command<'a>, Misread<'a>> {
+pub(crate) fn read<'a>(line: &'a str) -> Result<Command<'a>, Misread<'a>> {
     let (word, rest) = cut(line);
     if word.starts_with('#') {
         return Ok(Command::Nothing);

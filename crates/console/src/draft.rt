@@ -7,13 +7,13 @@ use table::Table;
 
 /// Names of rows and choices, which only a person reads.
 #[derive(Drop)]
-pub struct Names {
+pub(crate) struct Names {
     pub rows: Vec<String>,
     pub choices: Vec<(usize, String)>,
 }
 
 impl Names {
-    pub fn new(heap: Global) -> Names {
+    pub(crate) fn new(heap: Global) -> Names {
         Names {
             rows: Vec::new(heap),
             choices: Vec::new(heap),
@@ -21,7 +21,7 @@ impl Names {
     }
 
     /// The name of the row, or nothing.
-    pub fn row(&self, cells: &[u16]) -> &str {
+    pub(crate) fn row(&self, cells: &[u16]) -> &str {
         if cells.len() != 1 {
             return "";
         }
@@ -32,7 +32,7 @@ impl Names {
     }
 
     /// The name of the choice, or nothing.
-    pub fn choice(&self, choice: usize) -> &str {
+    pub(crate) fn choice(&self, choice: usize) -> &str {
         for (number, name) in self.choices.iter() {
             if *number == choice {
                 return name.as_str();
@@ -44,7 +44,7 @@ impl Names {
 
 /// A table and a listing, as far as they are written.
 #[derive(Drop)]
-pub struct Draft {
+pub(crate) struct Draft {
     pub safe: Vec<bool>,
     pub arcs: Vec<Arc>,
     pub names: Names,
@@ -53,7 +53,7 @@ pub struct Draft {
 }
 
 impl Draft {
-    pub fn new(heap: Global) -> Draft {
+    pub(crate) fn new(heap: Global) -> Draft {
         Draft {
             safe: Vec::new(heap),
             arcs: Vec::new(heap),
@@ -63,20 +63,25 @@ impl Draft {
         }
     }
 
-    pub fn begin_table(&mut self) {
+    pub(crate) fn begin_table(&mut self) {
         self.safe.clear();
         self.arcs.clear();
         self.names.rows.clear();
         self.names.choices.clear();
     }
 
-    pub fn add_row(&mut self, heap: Global, safe: bool, name: &str) -> Result<(), AllocError> {
+    pub(crate) fn add_row(
+        &mut self,
+        heap: Global,
+        safe: bool,
+        name: &str,
+    ) -> Result<(), AllocError> {
         self.names.rows.push(String::from_str(heap, name)?)?;
         self.safe.push(safe)?;
         Ok(())
     }
 
-    pub fn name_choice(
+    pub(crate) fn name_choice(
         &mut self,
         heap: Global,
         choice: usize,
@@ -89,7 +94,7 @@ impl Draft {
     }
 
     /// The names as they are written. The blank table, which stands for a faulty one, has none.
-    pub fn names(&self, heap: Global) -> Result<Names, AllocError> {
+    pub(crate) fn names(&self, heap: Global) -> Result<Names, AllocError> {
         match table::examine(&self.safe, &self.arcs) {
             Ok(()) => Ok(Names {
                 rows: self.names.rows.clone()?,
@@ -100,7 +105,7 @@ impl Draft {
     }
 
     /// The table as it is written, or the blank one.
-    pub fn table(&self, heap: Global) -> Result<Table, AllocError> {
+    pub(crate) fn table(&self, heap: Global) -> Result<Table, AllocError> {
         Ok(Table::new(
             Vec::from_slice(heap, &self.safe)?,
             Vec::from_slice(heap, &self.arcs)?,
@@ -109,7 +114,7 @@ impl Draft {
 }
 
 /// The cells of a line, or the word that is none.
-pub fn cells_of<'a>(
+pub(crate) fn cells_of<'a>(
     heap: Global,
     text: &'a str,
 ) -> Result<Result<Vec<u16>, Misread<'a>>, AllocError> {

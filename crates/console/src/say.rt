@@ -6,7 +6,7 @@ use table::TableFault;
 
 /// A row, by its cells.
 #[derive(Clone, Copy)]
-pub struct Cells<'a>(pub &'a [u16]);
+pub(crate) struct Cells<'a>(pub &'a [u16]);
 
 pub impl fmt::Display for Cells<'_> as CellsDisplay {
     fn fmt<W: fmt::Write>(&self, f: &mut fmt::Formatter<W>) -> fmt::Result {
@@ -20,7 +20,7 @@ pub impl fmt::Display for Cells<'_> as CellsDisplay {
 
 /// A row, by its name, if it has one.
 #[derive(Clone, Copy)]
-pub struct RowName<'a>(pub &'a str);
+pub(crate) struct RowName<'a>(pub &'a str);
 
 pub impl fmt::Display for RowName<'_> as RowNameDisplay {
     fn fmt<W: fmt::Write>(&self, f: &mut fmt::Formatter<W>) -> fmt::Result {
@@ -35,7 +35,7 @@ pub impl fmt::Display for RowName<'_> as RowNameDisplay {
 
 /// A choice, by its name, if it has one.
 #[derive(Clone, Copy)]
-pub struct ChoiceName<'a> {
+pub(crate) struct ChoiceName<'a> {
     pub choice: usize,
     pub name: &'a str,
 }
@@ -54,7 +54,7 @@ pub impl fmt::Display for ChoiceName<'_> as ChoiceNameDisplay {
 
 /// Why a call is refused.
 #[derive(Clone, Copy)]
-pub struct Why {
+pub(crate) struct Why {
     pub refusal: Refusal,
     pub length: usize,
     pub width: usize,
@@ -79,7 +79,7 @@ pub impl fmt::Display for Why as WhyDisplay {
 
 /// What a fault of a book is.
 #[derive(Clone, Copy)]
-pub struct FaultWords(pub Fault);
+pub(crate) struct FaultWords(pub Fault);
 
 pub impl fmt::Display for FaultWords as FaultWordsDisplay {
     fn fmt<W: fmt::Write>(&self, f: &mut fmt::Formatter<W>) -> fmt::Result {
@@ -100,7 +100,7 @@ pub impl fmt::Display for FaultWords as FaultWordsDisplay {
 
 /// What a fault of a table is.
 #[derive(Clone, Copy)]
-pub struct TableWords(pub TableFault);
+pub(crate) struct TableWords(pub TableFault);
 
 pub impl fmt::Display for TableWords as TableWordsDisplay {
     fn fmt<W: fmt::Write>(&self, f: &mut fmt::Formatter<W>) -> fmt::Result {

@@ -1,6 +1,5 @@
 //! Performs the commands of a script.
 use crate::command::Command;
-use crate::command::Misread;
 use crate::command::MisreadDisplay;
 use crate::command::read;
 use crate::draft::Draft;
@@ -24,7 +23,6 @@ use engine::rehearse;
 use inspect::Verdict;
 use inspect::inspect;
 use process::Process;
-use process::Refusal;
 use run::Call;
 use run::ClosedRun;
 use run::Exchange;
@@ -48,14 +46,14 @@ struct OpenRun {
 
 /// What a script has stated and opened so far.
 #[derive(Drop)]
-pub struct Session {
+pub(crate) struct Session {
     draft: Draft,
     run: Option<OpenRun>,
     rehearsal: Option<Vec<(usize, Exchange)>>,
 }
 
 impl Session {
-    pub fn new(heap: Global) -> Session {
+    pub(crate) fn new(heap: Global) -> Session {
         Session {
             draft: Draft::new(heap),
             run: None,
@@ -373,7 +371,7 @@ impl Session {
     }
 
     /// Performs a line of the script.
-    pub fn step(&mut self, rt: &LibcRuntime, line: usize, text: &str) -> io::Result<()> {
+    pub(crate) fn step(&mut self, rt: &LibcRuntime, line: usize, text: &str) -> io::Result<()> {
         match read(text) {
             Ok(command) => self.perform(rt, line, command),
             Err(why) => println!(rt, "{line}: bad; {why}"),
@@ -381,7 +379,7 @@ impl Session {
     }
 
     /// Says what is left open where the script ends.
-    pub fn finish(&self, rt: &LibcRuntime, line: usize) -> io::Result<()> {
+    pub(crate) fn finish(&self, rt: &LibcRuntime, line: usize) -> io::Result<()> {
         if self.rehearsal.is_some() {
             println!(
                 rt,

@@ -1,12 +1,11 @@
 -- A book is accepted just where it is closed, and then holds every row that can be reached.
 use mathlib.Core.Path.{_≡_, refl, sym, ap, subst, _∙_}
-use mathlib.Core.List.{[]}
 use mathlib.Core.Bool.{Bool, true, false, cond}
 use mathlib.Core.Logic.{inl, inr, _↔_}
 use Prim.Native.Nat.{ℕ, zero, suc, _<_}
 use native.Mathlib.Omega.{arith}
 use lib.ListN.{length}
-use Rattle.std.proofs.shelf.Tests.{eq-eqb, eqb-true, cond-true, cases-lt}
+use Rattle.std.proofs.shelf.Tests.{eq-eqb, cond-true, cases-lt}
 use Rattle.std.specs.declared.option.Option.{Option}
 use Rattle.std.specs.declared.option.Option.the-variants.{Some, None}
 use Rattle.process.specs.Meaning.{Meaning, Row, Lawful, Reachable, at-start, by-choice}

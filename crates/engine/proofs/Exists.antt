@@ -14,7 +14,7 @@ use Rattle.process.proofs.Tries.{reach-row}
 use Rattle.book.specs.Listing.{Listing, IsBook, In, among}
 use Rattle.book.proofs.Held.{among-in, in-among}
 use Rattle.book.proofs.Rows.{written}
-use Rattle.engine.specs.Accepting.{Accepts, Closed}
+use Rattle.engine.specs.Accepting.{Closed}
 use Rattle.engine.specs.Existing.{AllSafe, Has, Once, Census, Few, HasBook, Existing}
 use Rattle.engine.proofs.Closing.{accepted-closed, closed-is, closed-in}
 use Rattle.engine.proofs.Pigeons.{once-fits}

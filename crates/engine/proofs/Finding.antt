@@ -12,7 +12,7 @@ use Rattle.std.specs.declared.option.Option.the-variants.{Some, None}
 use Rattle.process.specs.Meaning.{Meaning, Row, Lawful}
 use Rattle.book.specs.Listing.{Listing, IsBook, In, row-at, among}
 use Rattle.book.proofs.Held.{among-in, in-among, not-among}
-use Rattle.inspect.specs.Findings.{FaultAt, fault-at, Finding, accepts, faults}
+use Rattle.inspect.specs.Findings.{FaultAt, fault-at, Finding, faults}
 use Rattle.inspect.specs.Verdicts.{or-else, first-below, led-out, choice-fault, row-fault, moves-in, or-accepts, verdict}
 use Rattle.inspect.proofs.Scans.{fault-is, leave-fault}
 use Rattle.engine.specs.Accepting.{StaysBy, Sound, SoundTo, Finds, no-fault, width-differs, start-not-held, unsafe-row, leads-out}

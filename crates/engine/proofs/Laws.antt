@@ -1,5 +1,5 @@
 -- The law of the engine.
-use mathlib.Core.Path.{_≡_, refl, sym, ap, subst, _∙_}
+use mathlib.Core.Path.{_≡_, sym, subst, _∙_}
 use mathlib.Core.List.{List}
 use Rattle.process.specs.Meaning.{Meaning, Row, Lawful, Reachable, at-start}
 use Rattle.book.specs.Listing.{Listing, IsBook}

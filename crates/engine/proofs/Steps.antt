@@ -1,24 +1,24 @@
 -- What one call comes to, in the words of a history.
-use mathlib.Core.Path.{_≡_, refl, sym, ap, _∙_}
+use mathlib.Core.Path.{_≡_, refl}
 use mathlib.Core.List.{List, [], _∷_}
 use mathlib.Core.Bool.{Bool, true, false, cond}
-use Prim.Native.Nat.{ℕ, _<_, _≤_, _+_, min}
+use Prim.Native.Nat.{ℕ, _<_}
 use native.Mathlib.Omega.{arith}
 use lib.ListN.{length}
 use lib.Dec.{eqb, ltb}
-use Rattle.std.proofs.shelf.Tests.{lt-ltb, le-ltb, ltb-true, ltb-false, eqb-true, eqb-false, eq-eqb, ne-eqb, cond-true, cond-false, false≢true}
+use Rattle.std.proofs.shelf.Tests.{ltb-true, ltb-false, eqb-true, eqb-false, eq-eqb, false≢true}
 use Rattle.std.specs.declared.option.Option.{Option}
 use Rattle.std.specs.declared.option.Option.the-variants.{Some, None}
 use Rattle.process.specs.Meaning.{Meaning, Row}
-use Rattle.process.specs.Outcomes.{Answer, gives, refuses, Outcome, wrote, refused, next-or, next-outcome}
+use Rattle.process.specs.Outcomes.{Answer, gives, refuses, Outcome, wrote, refused, next-or}
 use Rattle.process.specs.Counts.{openings-at}
 use Rattle.run.specs.Standing.{Stand, after-press, one-more}
-use Rattle.run.specs.Exchanges.{Entry, reply-by, answer-to, left-after, stand-after, made, stand-made}
+use Rattle.run.specs.Exchanges.{Entry, reply-by, answer-to, left-after, stand-after, made}
 use Rattle.run.specs.declared.exchange.Call.{Call}
 use Rattle.run.specs.declared.exchange.Call.the-variants.{Press, Look, Openings}
 use Rattle.run.specs.declared.exchange.Reply.{Reply}
 use Rattle.run.specs.declared.exchange.Reply.the-variants.{Moved, Shown, Counted}
-use Rattle.engine.specs.Running.{Path, stay, step, Answers, moves, not-allowed, no-such-choice, shows, counts, wrong-length, Answered, has-moved, was-barred, choice-of}
+use Rattle.engine.specs.Running.{Answers, moves, not-allowed, no-such-choice, shows, counts, wrong-length, Answered, has-moved, was-barred, choice-of}
 
 -- what one call does to a stand: the choice that moved, whether it moved, and whether it was barred
 pub data Step (m : Meaning) (t : Stand) : List ℕ → Bool → Bool → Stand → Type 0 where

@@ -6,7 +6,7 @@ use Prim.Native.Nat.{ℕ, _<_, _≤_, _+_, min}
 use lib.ListN.{length, getD, take}
 use Rattle.std.specs.declared.option.Option.{Option}
 use Rattle.std.specs.declared.option.Option.the-variants.{Some, None}
-use Rattle.process.specs.Meaning.{Meaning, Row, Reachable}
+use Rattle.process.specs.Meaning.{Meaning, Row}
 use Rattle.process.specs.Outcomes.{Answer, gives, refuses}
 use Rattle.process.specs.Counts.{openings-at}
 use Rattle.run.specs.Standing.{Stand, tallied}

@@ -10,7 +10,7 @@ use Rattle.std.specs.declared.option.Option.the-variants.{Some}
 use Rattle.process.specs.Meaning.{Meaning, Row}
 use Rattle.process.specs.Outcomes.{Answer}
 use Rattle.run.specs.Standing.{Stand}
-use Rattle.run.specs.Exchanges.{Entry, entry-of, answer-to, left-after, stand-after, made, stand-made, all-made, stand-all-made}
+use Rattle.run.specs.Exchanges.{Entry, entry-of, answer-to, left-after, made, stand-made, all-made, stand-all-made}
 use Rattle.run.specs.declared.exchange.Call.{Call}
 use Rattle.run.specs.declared.exchange.Reply.{Reply}
 use Rattle.run.specs.declared.exchange.Exchange.{Exchange}
