@@ -24,6 +24,10 @@ pub(crate) enum Command<'a> {
     ExamineTable,
     /// Whether the listing is good.
     ExamineBook,
+    /// The row of this number is to be copied out of the book.
+    Copy { index: usize, length: Option<usize> },
+    /// Whether the book holds this row.
+    Holds { cells: &'a str },
     Inspect,
     Open,
     /// A call on the open run, or in a rehearsal, with a buffer of this length, or of the width where none is given.
@@ -173,6 +177,15 @@ fn press<'a>(rest: &'a str) -> Result<Command<'a>, Misread<'a>> {
     })
 }
 
+fn copy<'a>(rest: &'a str) -> Result<Command<'a>, Misread<'a>> {
+    let (word, more) = cut(rest);
+    let index = number(word, usize::MAX, "the row's number")?;
+    Ok(Command::Copy {
+        index,
+        length: length(more)?,
+    })
+}
+
 fn examine<'a>(rest: &'a str) -> Result<Command<'a>, Misread<'a>> {
     match rest {
         "table" => Ok(Command::ExamineTable),
@@ -208,6 +221,8 @@ pub(crate) fn read<'a>(line: &'a str) -> Result<Command<'a>, Misread<'a>> {
         }),
         "cells" => Ok(Command::Cells { cells: rest }),
         "examine" => examine(rest),
+        "copy" => copy(rest),
+        "holds" => Ok(Command::Holds { cells: rest }),
         "inspect" => alone(Command::Inspect, rest),
         "open" => alone(Command::Open, rest),
         "press" => press(rest),

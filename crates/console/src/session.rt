@@ -17,6 +17,7 @@ use crate::say::TableWords;
 use crate::say::TableWordsDisplay;
 use crate::say::Why;
 use crate::say::WhyDisplay;
+use book::Book;
 use book::ListedBook;
 use book::ListedBookBook;
 use engine::rehearse;
@@ -334,6 +335,49 @@ impl Session {
         }
     }
 
+    fn copy(
+        &self,
+        rt: &LibcRuntime,
+        line: usize,
+        index: usize,
+        length: Option<usize>,
+    ) -> io::Result<()> {
+        let book = ListedBook::new(&self.draft.cells, self.draft.width);
+        let width = book.width();
+        let count = book.count();
+        let mut buffer = vec![in rt.alloc(); 65535u16; length.unwrap_or(width)]?;
+        match book.copy_row(index, &mut buffer) {
+            Ok(()) => println!(
+                rt,
+                "{line}: copied {}; row {index} of the book",
+                Cells(&buffer)
+            ),
+            Err(why) => {
+                let number = why.number();
+                let place = why.place();
+                println!(
+                    rt,
+                    "{line}: refused {number} place {place}; the book has {count} rows of {width} cells"
+                )
+            }
+        }
+    }
+
+    fn holds(&self, rt: &LibcRuntime, line: usize, text: &str) -> io::Result<()> {
+        let book = ListedBook::new(&self.draft.cells, self.draft.width);
+        match cells_of(rt.alloc(), text)? {
+            Ok(cells) => {
+                let answer = if book.holds(&cells) { "yes" } else { "no" };
+                println!(
+                    rt,
+                    "{line}: holds {answer} {}; whether the book holds this row",
+                    Cells(&cells)
+                )
+            }
+            Err(why) => println!(rt, "{line}: bad; {why}"),
+        }
+    }
+
     fn add_cells(&mut self, rt: &LibcRuntime, line: usize, text: &str) -> io::Result<()> {
         match cells_of(rt.alloc(), text)? {
             Ok(cells) => {
@@ -360,6 +404,8 @@ impl Session {
             Command::Cells { cells } => self.add_cells(rt, line, cells)?,
             Command::ExamineTable => self.examine_table(rt, line)?,
             Command::ExamineBook => self.examine_book(rt, line)?,
+            Command::Copy { index, length } => self.copy(rt, line, index, length)?,
+            Command::Holds { cells } => self.holds(rt, line, cells)?,
             Command::Inspect => self.inspect(rt, line)?,
             Command::Open => self.open(rt, line)?,
             Command::Make { call, length } => self.make(rt, line, call, length)?,
