@@ -6,9 +6,10 @@ use Prim.Native.Nat.{ℕ, _≤_}
 use lib.ListN.{length, take}
 use Rattle.process.specs.Meaning.{Meaning, Row, Reachable}
 use Rattle.book.specs.Listing.{Listing, IsBook, In}
-use Rattle.run.specs.Standing.{Stand}
-use Rattle.run.specs.Exchanges.{Entry}
+use Rattle.run.specs.Standing.{Stand, opened}
+use Rattle.run.specs.Exchanges.{Entry, all-made, stand-all-made}
 use Rattle.inspect.specs.Findings.{Finding}
+use Rattle.inspect.specs.Verdicts.{verdict}
 use Rattle.engine.specs.Accepting.{Accepts, Accepting}
 use Rattle.engine.specs.Existing.{Existing}
 use Rattle.engine.specs.Running.{Path, moved-choices, Running}
@@ -29,3 +30,9 @@ pub record Law (m : Meaning) (l : Listing) (found : Finding) (given done : List 
   pub held : (n : ℕ) → n ≤ length done → (r : Row) → Path m (m .start) (moved-choices (take n done)) r → Held m r
   pub held-at-end : Held m (end .row)
   pub existing : Existing m
+
+-- whatever inspection finds of the book, and whatever calls a run is played with, the law holds
+abbrev pub Holds : Meaning → Listing → Type 0
+Holds m l =
+    (found : Finding) (given done : List Entry) (end : Stand) → found ≡ verdict m l → done ≡ all-made m (opened m) given →
+    end ≡ stand-all-made m (opened m) given → Law m l found given done end

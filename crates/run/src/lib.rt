@@ -16,5 +16,5 @@ pub use exchange::ReplyDebug;
 pub use exchange::ReplyEq;
 pub use exchange::ReplyPartialEq;
 pub use perform::make;
-pub use perform::make_all;
+pub use perform::play;
 pub use run::Run;

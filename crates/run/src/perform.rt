@@ -2,8 +2,10 @@
 ghost use mathlib.Core.Path.{_≡_};
 ghost use mathlib.Core.List.{map};
 ghost use Rattle.process.specs.Outcomes.{told};
-ghost use Rattle.run.specs.Runs.{means, stands};
+ghost use Rattle.run.specs.Standing.{opened};
+ghost use Rattle.run.specs.Runs.{means, stands, closed-stands};
 ghost use Rattle.run.specs.Exchanges.{entry-of, answer-to, left-after, stand-after, made, stand-made, all-made, stand-all-made};
+use crate::closed::ClosedRun;
 use crate::exchange::Call;
 use crate::exchange::Exchange;
 use crate::exchange::Reply;
@@ -43,8 +45,8 @@ pub fn make<P: Process>(run: &mut Run<P>, exchange: &mut Exchange)
     exchange.reply = Some(reply);
 }
 
-/// Makes the calls, one after the other.
-pub fn make_all<P: Process>(run: &mut Run<P>, exchanges: &mut [Exchange])
+// Makes the calls, one after the other.
+fn make_all<P: Process>(run: &mut Run<P>, exchanges: &mut [Exchange])
     ensures same { λ _. ⌜ now (run .exit) .process ≡ now (run .entry) .process ⌝ }
     ensures entries { λ _. ⌜ map entry-of (now (exchanges .exit)) ≡ all-made (means meaning (now (run .entry))) (stands meaning (now (run .entry))) (map entry-of (now (exchanges .entry))) ⌝ }
     ensures stand { λ _. ⌜ stands meaning (now (run .exit)) ≡ stand-all-made (means meaning (now (run .entry))) (stands meaning (now (run .entry))) (map entry-of (now (exchanges .entry))) ⌝ }
@@ -52,4 +54,15 @@ pub fn make_all<P: Process>(run: &mut Run<P>, exchanges: &mut [Exchange])
     for exchange in exchanges.iter_mut() {
         make(run, exchange);
     }
+}
+
+/// A whole run of the process: opens it, makes the calls one after the other, each with its own buffer, and closes it.
+pub fn play<P: Process>(process: P, exchanges: &mut [Exchange]) -> ClosedRun<P>
+    ensures same { λ r. ⌜ r .process ≡ process ⌝ }
+    ensures entries { λ _. ⌜ map entry-of (now (exchanges .exit)) ≡ all-made (meaning process) (opened (meaning process)) (map entry-of (now (exchanges .entry))) ⌝ }
+    ensures stand { λ r. ⌜ closed-stands meaning r ≡ stand-all-made (meaning process) (opened (meaning process)) (map entry-of (now (exchanges .entry))) ⌝ }
+{
+    let mut run = Run::open(process);
+    make_all(&mut run, exchanges);
+    run.close()
 }
