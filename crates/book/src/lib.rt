@@ -1,4 +1,6 @@
 //! What a book is: a list of rows of one width. And the listed book, which takes them in any order.
+#![tactic(auto)]
+
 mod book;
 mod fault;
 mod listed;

@@ -1,4 +1,6 @@
 //! The console: reads a script from standard input, one command a line, and prints one line for each answer.
+#![tactic(auto)]
+
 mod command;
 mod draft;
 mod procedure;

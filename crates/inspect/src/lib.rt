@@ -1,4 +1,6 @@
 //! Inspection: whether a book holds the start row, only safe rows, and every row that a choice leads to.
+#![tactic(auto)]
+
 mod scan;
 mod verdict;
 

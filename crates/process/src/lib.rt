@@ -1,4 +1,6 @@
 //! What a process is: rows of a fixed number of cells, a fixed number of choices, and where each choice leads.
+#![tactic(auto)]
+
 mod limits;
 mod process;
 mod refusal;

@@ -1,4 +1,6 @@
 //! Runs of a process: opened, pressed, looked at, asked for their openings, and closed.
+#![tactic(auto)]
+
 mod closed;
 mod exchange;
 mod perform;

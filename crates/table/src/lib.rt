@@ -1,4 +1,6 @@
 //! Written tables: processes whose rows have one cell, the row's own number.
+#![tactic(auto)]
+
 mod arc;
 mod examination;
 mod table;

@@ -1,4 +1,6 @@
 //! Token drawings as processes.
+#![tactic(auto)]
+
 mod act;
 mod changes;
 mod making;

@@ -1,4 +1,6 @@
 //! The rules of token drawings, and drawings that follow them.
+#![tactic(auto)]
+
 mod drawing;
 mod example;
 

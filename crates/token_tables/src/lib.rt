@@ -1,4 +1,6 @@
 //! Token drawings: the tables of nodes and edges that a caller writes, and their examination.
+#![tactic(auto)]
+
 mod drawing_fault;
 mod edge;
 mod examination;
