@@ -15,21 +15,21 @@ pub struct ClosedRun<P: Process> {
 impl<P: Process> ClosedRun<P> {
     /// The row at which the run ended.
     pub fn row(&self) -> &[u16]
-        ensures { result.now ≡ (closed_stands meaning self.now).row }
+        ensures { result.now ≡ (closed_stands P.meaning self.now).row }
     {
         self.standing.row(self.process.width())
     }
 
     /// How many presses moved the run, up to 4,294,967,295.
     pub fn moved(&self) -> u32
-        ensures { result ≡ (closed_stands meaning self.now).moved }
+        ensures { result ≡ (closed_stands P.meaning self.now).moved }
     {
         self.standing.moved
     }
 
     /// How many presses were refused by 21 or 22, up to 4,294,967,295.
     pub fn refused(&self) -> u32
-        ensures { result ≡ (closed_stands meaning self.now).refused }
+        ensures { result ≡ (closed_stands P.meaning self.now).refused }
     {
         self.standing.refused
     }

@@ -12,9 +12,9 @@ use process::{Process, Refusal};
 
 fn answer<P: Process>(run: &mut Run<P>, call: Call, out: &mut [u16]) -> Result<Reply, Refusal>
     ensures same { run.new.process ≡ run.old.process }
-    ensures answer { told result ≡ answer_to (means meaning run.old) (stands meaning run.old) out.old call }
-    ensures left { out.new ≡ left_after (means meaning run.old) (stands meaning run.old) out.old call }
-    ensures stand { stands meaning run.new ≡ stand_after (means meaning run.old) (stands meaning run.old) out.old call }
+    ensures answer { told result ≡ answer_to (means P.meaning run.old) (stands P.meaning run.old) out.old call }
+    ensures left { out.new ≡ left_after (means P.meaning run.old) (stands P.meaning run.old) out.old call }
+    ensures stand { stands P.meaning run.new ≡ stand_after (means P.meaning run.old) (stands P.meaning run.old) out.old call }
 {
     match call {
         Call::Press { choice } => match run.press(choice, out) {
@@ -35,8 +35,8 @@ fn answer<P: Process>(run: &mut Run<P>, call: Call, out: &mut [u16]) -> Result<R
 /// Makes the call with its own buffer, and notes the reply.
 pub fn make<P: Process>(run: &mut Run<P>, exchange: &mut Exchange)
     ensures same { run.new.process ≡ run.old.process }
-    ensures entry { entry_of exchange.new ≡ made (means meaning run.old) (stands meaning run.old) (entry_of exchange.old) }
-    ensures stand { stands meaning run.new ≡ stand_made (means meaning run.old) (stands meaning run.old) (entry_of exchange.old) }
+    ensures entry { entry_of exchange.new ≡ made (means P.meaning run.old) (stands P.meaning run.old) (entry_of exchange.old) }
+    ensures stand { stands P.meaning run.new ≡ stand_made (means P.meaning run.old) (stands P.meaning run.old) (entry_of exchange.old) }
 {
     let reply = answer(run, exchange.call, &mut exchange.buffer);
     exchange.reply = Some(reply);
@@ -45,8 +45,8 @@ pub fn make<P: Process>(run: &mut Run<P>, exchange: &mut Exchange)
 // Makes the calls, one after the other.
 fn make_all<P: Process>(run: &mut Run<P>, exchanges: &mut [Exchange])
     ensures same { run.new.process ≡ run.old.process }
-    ensures entries { map entry_of exchanges.new ≡ all_made (means meaning run.old) (stands meaning run.old) (map entry_of exchanges.old) }
-    ensures stand { stands meaning run.new ≡ stand_all_made (means meaning run.old) (stands meaning run.old) (map entry_of exchanges.old) }
+    ensures entries { map entry_of exchanges.new ≡ all_made (means P.meaning run.old) (stands P.meaning run.old) (map entry_of exchanges.old) }
+    ensures stand { stands P.meaning run.new ≡ stand_all_made (means P.meaning run.old) (stands P.meaning run.old) (map entry_of exchanges.old) }
 {
     for exchange in exchanges.iter_mut() {
         make(run, exchange);
@@ -56,8 +56,8 @@ fn make_all<P: Process>(run: &mut Run<P>, exchanges: &mut [Exchange])
 /// A whole run of the process: opens it, makes the calls one after the other, each with its own buffer, and closes it.
 pub fn play<P: Process>(process: P, exchanges: &mut [Exchange]) -> ClosedRun<P>
     ensures same { result.process ≡ process }
-    ensures entries { map entry_of exchanges.new ≡ all_made (meaning process) (opened (meaning process)) (map entry_of exchanges.old) }
-    ensures stand { closed_stands meaning result ≡ stand_all_made (meaning process) (opened (meaning process)) (map entry_of exchanges.old) }
+    ensures entries { map entry_of exchanges.new ≡ all_made (P.meaning process) (opened (P.meaning process)) (map entry_of exchanges.old) }
+    ensures stand { closed_stands P.meaning result ≡ stand_all_made (P.meaning process) (opened (P.meaning process)) (map entry_of exchanges.old) }
 {
     let mut run = Run::open(process);
     make_all(&mut run, exchanges);

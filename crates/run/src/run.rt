@@ -20,7 +20,7 @@ impl<P: Process> Run<P> {
     /// A run at the start row, with both tallies at 0.
     pub fn open(process: P) -> Run<P>
         ensures same { result.process ≡ process }
-        ensures stand { stands meaning result ≡ opened (meaning process) }
+        ensures stand { stands P.meaning result ≡ opened (P.meaning process) }
     {
         let standing = Standing::opened(&process);
         Run { process, standing }
@@ -29,9 +29,9 @@ impl<P: Process> Run<P> {
     /// Makes the row that the choice leads to the present one, and leaves it in the buffer. Refuses by 20, 21 and 22.
     pub fn press(&mut self, choice: usize, out: &mut [u16]) -> Result<(), Refusal>
         ensures same { self.new.process ≡ self.old.process }
-        ensures answer { told result ≡ (next_outcome (means meaning self.old) (stands meaning self.old).row choice out.old).answer }
-        ensures left { out.new ≡ (next_outcome (means meaning self.old) (stands meaning self.old).row choice out.old).left }
-        ensures stand { stands meaning self.new ≡ pressed (means meaning self.old) (stands meaning self.old) choice out.old }
+        ensures answer { told result ≡ (next_outcome (means P.meaning self.old) (stands P.meaning self.old).row choice out.old).answer }
+        ensures left { out.new ≡ (next_outcome (means P.meaning self.old) (stands P.meaning self.old).row choice out.old).left }
+        ensures stand { stands P.meaning self.new ≡ pressed (means P.meaning self.old) (stands P.meaning self.old) choice out.old }
     {
         let answer = self.standing.attempt(&self.process, choice, out);
         match answer {
@@ -51,8 +51,8 @@ impl<P: Process> Run<P> {
 
     /// Leaves the present row in the buffer. Refuses by 20.
     pub fn look(&self, out: &mut [u16]) -> Result<(), Refusal>
-        ensures answer { told result ≡ (look_outcome (means meaning self.now) (stands meaning self.now).row out.old).answer }
-        ensures left { out.new ≡ (look_outcome (means meaning self.now) (stands meaning self.now).row out.old).left }
+        ensures answer { told result ≡ (look_outcome (means P.meaning self.now) (stands P.meaning self.now).row out.old).answer }
+        ensures left { out.new ≡ (look_outcome (means P.meaning self.now) (stands P.meaning self.now).row out.old).left }
     {
         let width = self.process.width();
         if out.len() != width {
@@ -64,8 +64,8 @@ impl<P: Process> Run<P> {
 
     /// How many choices are allowed now. Leaves the present row in the buffer. Refuses by 20.
     pub fn openings(&self, out: &mut [u16]) -> Result<usize, Refusal>
-        ensures answer { told result ≡ openings_answer (means meaning self.now) (stands meaning self.now).row out.old }
-        ensures left { out.new ≡ (look_outcome (means meaning self.now) (stands meaning self.now).row out.old).left }
+        ensures answer { told result ≡ openings_answer (means P.meaning self.now) (stands P.meaning self.now).row out.old }
+        ensures left { out.new ≡ (look_outcome (means P.meaning self.now) (stands P.meaning self.now).row out.old).left }
     {
         let width = self.process.width();
         if out.len() != width {
@@ -85,7 +85,7 @@ impl<P: Process> Run<P> {
     /// Ends the run.
     pub fn close(self) -> ClosedRun<P>
         ensures same { result.process ≡ self.process }
-        ensures stand { closed_stands meaning result ≡ stands meaning self }
+        ensures stand { closed_stands P.meaning result ≡ stands P.meaning self }
     {
         let Run { process, standing } = self;
         ClosedRun { process, standing }

@@ -27,7 +27,7 @@ impl Standing {
 
     /// Where a run of the process begins.
     pub(crate) fn opened<P: Process>(process: &P) -> Standing
-        ensures { stand_of (meaning process.now) result ≡ opened (meaning process.now) }
+        ensures { stand_of (P.meaning process.now) result ≡ opened (P.meaning process.now) }
     {
         let mut standing = Standing::blank();
         let all: &mut [u16] = &mut standing.cells;
@@ -61,9 +61,9 @@ impl Standing {
         choice: usize,
         out: &mut [u16],
     ) -> Result<(), Refusal>
-        ensures answer { told result ≡ (next_outcome (meaning process.now) (stand_of (meaning process.now) self.old).row choice out.old).answer }
-        ensures left { out.new ≡ (next_outcome (meaning process.now) (stand_of (meaning process.now) self.old).row choice out.old).left }
-        ensures row { (stand_of (meaning process.now) self.new).row ≡ row_after (told result) out.new (stand_of (meaning process.now) self.old).row }
+        ensures answer { told result ≡ (next_outcome (P.meaning process.now) (stand_of (P.meaning process.now) self.old).row choice out.old).answer }
+        ensures left { out.new ≡ (next_outcome (P.meaning process.now) (stand_of (P.meaning process.now) self.old).row choice out.old).left }
+        ensures row { (stand_of (P.meaning process.now) self.new).row ≡ row_after (told result) out.new (stand_of (P.meaning process.now) self.old).row }
         ensures moved { self.new.moved ≡ self.old.moved }
         ensures refused { self.new.refused ≡ self.old.refused }
     {

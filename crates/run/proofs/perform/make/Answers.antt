@@ -12,7 +12,7 @@ returns g c =
     let m = means g.P.Process.meaning run in
     let s = stands g.P.Process.meaning run in
     let e = c.args.exchange.now in
-    let lent = c.deref-mut.ensures in
+    let lent = c.deref_mut.ensures in
     let done = c.answer-reply.ensures in
     record {
       same = done.same;

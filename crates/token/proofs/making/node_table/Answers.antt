@@ -2,4 +2,4 @@ use Rattle.token.proofs.Fronts.{front}
 use Rattle.token.proofs.making.node_table.Goals as goal
 
 pub returns : goal.returns
-returns c = front _ c.args.nodes.now _ c.copy-from-slice.ensures.after
+returns c = front _ c.args.nodes.now _ c.copy_from_slice.ensures.after

@@ -5,13 +5,13 @@ use Rattle.process.specs.Examining.{first_fault}
 use Rattle.token_tables.specs.Examination.{edge_fault}
 use Rattle.token_tables.proofs.examination.examine_edges.Goals as goal
 
-pub returns-in-err-examine-edge : goal.returns-in-err-examine-edge
-returns-in-err-examine-edge c =
-    let p = err_from_is_err_and c.from-residual.result c.from-residual.ensures.1 in
-    rw (p.1, p.2) (fault_at (edge_fault c.args.nodes) _ _ c.loop-index.invariant _ _ _ c.loop-index-test.true (sym c.in-err-examine-edge.ensures))
+pub returns-in_err-examine_edge : goal.returns-in_err-examine_edge
+returns-in_err-examine_edge c =
+    let p = err_from_is_err_and c.from_residual.result c.from_residual.ensures.1 in
+    rw (p.1, p.2) (fault_at (edge_fault c.args.nodes) _ _ c.loop-index.invariant _ _ _ c.loop-index-test.true (sym c.in_err-examine_edge.ensures))
 
 pub loop-index-preserved : goal.loop-index-preserved
-loop-index-preserved c = no_fault (edge_fault c.args.nodes) _ _ c.loop-index.invariant _ c.loop-index-test.true (sym c.in-ok-examine-edge.ensures)
+loop-index-preserved c = no_fault (edge_fault c.args.nodes) _ _ c.loop-index.invariant _ c.loop-index-test.true (sym c.in_ok-examine_edge.ensures)
 
 pub returns : goal.returns
 returns c = all_done (first_fault (edge_fault c.args.nodes) c.loop-index.index) _ _ c.loop-index.invariant c.loop-index-test.false

@@ -2,7 +2,7 @@ use Rattle.std.proofs.Common.{◌≡◌, ◌<◌, length, sym, ap, ◌∙◌, ar
 use Rattle.process.specs.Counts.{one_if}
 use Rattle.process.proofs.Tries.{next_told, sum_more}
 use Rattle.run.proofs.run.Run.openings.Goals as goal
-use Rattle.run.proofs.run.Run.openings.Goals.{then-is-ok, else-is-ok}
+use Rattle.run.proofs.run.Run.openings.Goals.{then-is_ok, else-is_ok}
 
 pub loop-choice-preserved : goal.loop-choice-preserved
 loop-choice-preserved g c =
@@ -13,9 +13,9 @@ loop-choice-preserved g c =
     let long : length row ≡ m.width = omega arith in
     let below : i < m.choices = omega arith in
     let told = next_told m row _ _ i _ long out below c.next.ensures.answer c.next.ensures.left in
-    let ok = sym c.is-ok.ensures.value in
+    let ok = sym c.is_ok.ensures.value in
     let more = sum_more (λ k. one_if (m.next row k)) i in
-    elim c.if-is-ok.branch [
-      | then-is-ok w ↦ let e = ap one_if (told.0 (ok ∙ w.if-is-ok.true)) in (omega arith, omega arith)
-      | else-is-ok w ↦ let e = ap one_if (told.1 (ok ∙ w.if-is-ok.false)) in (omega arith, omega arith)
+    elim c.if-is_ok.branch [
+      | then-is_ok w ↦ let e = ap one_if (told.0 (ok ∙ w.if-is_ok.true)) in (omega arith, omega arith)
+      | else-is_ok w ↦ let e = ap one_if (told.1 (ok ∙ w.if-is_ok.false)) in (omega arith, omega arith)
     ]

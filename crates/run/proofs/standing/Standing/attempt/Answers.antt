@@ -4,8 +4,8 @@ use Rattle.process.specs.Outcomes.{Outcome, next_outcome}
 use Rattle.run.proofs.Stands.{gave_row}
 use Rattle.run.proofs.standing.Standing.attempt.Goals as goal
 
-pub returns-then-is-ok : goal.returns-then-is-ok
-returns-then-is-ok g c =
+pub returns-then-is_ok : goal.returns-then-is_ok
+returns-then-is_ok g c =
     let m = g.P.Process.meaning c.args.process.now in
     let s = c.args.self.now in
     let out = c.args.out.now in
@@ -17,7 +17,7 @@ returns-then-is-ok g c =
       answer = answer;
       left = c.next-answer.ensures.left ∙ ap (λ (o : Outcome). o.left) same;
       row = gave_row m (take m.width s.cells) out _ new (drop (length new) s.cells) c.args.choice c.next-answer.result answer
-          (sym c.is-ok.ensures.value ∙ c.if-is-ok.true) c.next-answer.auto.out c.set-row.ensures.cells;
-      moved = c.set-row.ensures.moved;
-      refused = c.set-row.ensures.refused;
+          (sym c.is_ok.ensures.value ∙ c.if-is_ok.true) c.next-answer.auto.out c.set_row.ensures.cells;
+      moved = c.set_row.ensures.moved;
+      refused = c.set_row.ensures.refused;
     }

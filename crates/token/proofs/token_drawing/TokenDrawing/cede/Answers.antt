@@ -6,6 +6,6 @@ use Rattle.token.proofs.token_drawing.TokenDrawing.cede.Goals as goal
 
 pub returns : goal.returns
 returns c = record {
-  same = c.cede-by-kind.ensures;
-  low = at_most_by _ _ 10000 10000 c.cede-by-kind.ensures (omega arith) ((tame_ceded (drawing_of c.args.self.now) _ c.args.n).low 10000 _ c.requires.long c.requires.low);
+  same = c.cede_by_kind.ensures;
+  low = at_most_by _ _ 10000 10000 c.cede_by_kind.ensures (omega arith) ((tame_ceded (drawing_of c.args.self.now) _ c.args.n).low 10000 _ c.requires.long c.requires.low);
 }

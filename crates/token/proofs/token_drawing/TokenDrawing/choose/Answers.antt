@@ -8,8 +8,8 @@ pub raise-requires : goal.raise-requires
 raise-requires c = record {
   long = search rules;
   low =
-      let first = 2 * length c.node-list.result.now in
-      let edges = c.edge-list-edges.result.now in
-      let low : AtMost 10000 c.take-all.new.out = taken_low first (get_or edges c.args.e no_edge).source 10000 edges c.args.out.now _ c.take-all.ensures c.requires.low in
+      let first = 2 * length c.node_list.result.now in
+      let edges = c.edge_list-edges.result.now in
+      let low : AtMost 10000 c.take_all.new.out = taken_low first (get_or edges c.args.e no_edge).source 10000 edges c.args.out.now _ c.take_all.ensures c.requires.low in
       omega (arith, low (first + c.args.e));
 }
