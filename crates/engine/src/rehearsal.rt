@@ -19,7 +19,7 @@ pub struct Rehearsal<P: Process> {
 
 // Does nothing: the law, of this process and this book.
 fn law<P: Process, B: Book>(process: &P, book: &B)
-    ensures { Holds (meaning process.now) (listing book.now) }
+    ensures { Holds (P.meaning process.now) (B.listing book.now) }
 {
     let _ = book.width();
 }
@@ -32,7 +32,7 @@ pub fn rehearse<P: Process + Drop, B: Book>(
     exchanges: &mut [Exchange],
 ) -> Rehearsal<P>
     ensures same { result.run.process ≡ process }
-    ensures law { Law (meaning process) (listing book.now) (told result.verdict) (map entry_of exchanges.old) (map entry_of exchanges.new) (closed_stands meaning result.run) }
+    ensures law { Law (P.meaning process) (B.listing book.now) (told result.verdict) (map entry_of exchanges.old) (map entry_of exchanges.new) (closed_stands P.meaning result.run) }
 {
     law(&process, book);
     let verdict = inspect(&process, book);
