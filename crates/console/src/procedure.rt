@@ -1,9 +1,5 @@
 //! What a script states: a written table or a token drawing, and either as a process.
-ghost use Rattle.console.specs.Procedures.{procedure_means};
-ghost use Rattle.table.specs.Laws.{lawful_table, within_table};
-ghost use Rattle.token.specs.Laws.{lawful_drawing, within_drawing};
-ghost use Rattle.console.specs.declared.procedure.Procedure.TheVariants.{Written, Drawn};
-ghost use Rattle.std.proofs.Common.{arith};
+ghost use Rattle.console.specs.Procedures.{procedure_means, lawful_procedure, within_procedure};
 
 use process::{Limits, Process, Refusal};
 use table::Table;
@@ -24,12 +20,9 @@ impl Process for Procedure {
 
     ghost bounds = { record { widest = 257; most_choices = 4096 } };
 
-    ghost lawful = { elim [ Written t ↦ lawful_table t | Drawn d ↦ lawful_drawing d ] };
+    ghost lawful = { lawful_procedure };
 
-    ghost within = { elim [
-      | Written t ↦ let w = within_table t in record { width = omega (arith, w.width); choices = omega (arith, w.choices); widest = omega arith; most = omega arith }
-      | Drawn d ↦ let w = within_drawing d in record { width = omega (arith, w.width); choices = omega (arith, w.choices); widest = omega arith; most = omega arith }
-    ] };
+    ghost within = { within_procedure };
 
     fn limits() -> Limits {
         Limits {
