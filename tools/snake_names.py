@@ -3,8 +3,8 @@
 
 usage: python3 tools/snake_names.py [--list]        at the top of the repository
 
-Own names are those that a file of specs/ or proofs/ declares: definitions, lemmas, constructors, fields, and what is
-bound by a signature, a λ or a `let`. A goal's name, which Rattle makes, keeps its dashes, and so does a name that some file imports
+Own names are those that a file of specs/ or proofs/ declares: definitions, lemmas, constructors, fields, what is bound
+by a signature, a λ or a `let`, and the names after `as` in an import. A goal's name, which Rattle makes, keeps its dashes, and so does a name that some file imports
 from the library. Only specs/, proofs/, the ghost text of src/, and names in backticks of README.md and docs/ change.
 With --list it only prints the names.
 """
@@ -20,8 +20,8 @@ SIGNATURE = re.compile(rf"^\s*(?:(?:pub|abbrev|unfoldable|private)\s+)*({WORD})\
 BINDER = re.compile(r"[({]([^(){}:]*?)\s:\s")
 LAMBDA = re.compile(r"λ\s*([^.()]*?)\.")
 LET = re.compile(rf"\blet\s+({WORD})\b")
-HEAD = re.compile(rf"^\s*({WORD})((?:\s+[\w'′]+)*)\s*=", re.M)
 USE = re.compile(r"use\s+([\w·.]+)\.\{([^}]*)\}")
+ALIAS = re.compile(rf"\bas\s+({WORD})")
 
 
 def texts(top):
@@ -42,6 +42,7 @@ def own_names(top):
         declared.update(LET.findall(bare))
     for path in list(top.glob("crates/*/**/*.antt")) + list(top.glob("crates/*/src/**/*.rt")):
         for module, names in USE.findall(path.read_text(encoding="utf-8")):
+            declared.update(ALIAS.findall(names))
             of = re.match(r"Rattle[.·](\w+)", module)
             if not of or of.group(1) not in crates:
                 library.update(n.strip().split(" as ")[0].strip() for n in names.split(","))
