@@ -1,8 +1,10 @@
 //! A rehearsal: an inspection and a whole run.
 ghost use Rattle.std.specs.Prelude.{◌≡◌, map};
 ghost use Rattle.run.specs.Runs.{closed_stands};
-ghost use Rattle.run.specs.Exchanges.{entry_of};
+ghost use Rattle.run.specs.Standing.{opened};
+ghost use Rattle.run.specs.Exchanges.{entry_of, all_made, stand_all_made};
 ghost use Rattle.inspect.specs.Findings.{told};
+ghost use Rattle.inspect.specs.Verdicts.{verdict};
 ghost use Rattle.engine.specs.Law.{Law, Holds};
 
 use book::Book;
@@ -24,6 +26,22 @@ fn law<P: Process, B: Book>(process: &P, book: &B)
     let _ = book.width();
 }
 
+// Inspects the book, and plays a run of the process with the exchanges.
+fn hold<P: Process + Drop, B: Book>(
+    process: P,
+    book: &B,
+    exchanges: &mut [Exchange],
+) -> Rehearsal<P>
+    ensures same { result.run.process ≡ process }
+    ensures verdict { told result.verdict ≡ verdict (P.meaning process) (B.listing book.now) }
+    ensures entries { map entry_of exchanges.new ≡ all_made (P.meaning process) (opened (P.meaning process)) (map entry_of exchanges.old) }
+    ensures stand { closed_stands P.meaning result.run ≡ stand_all_made (P.meaning process) (opened (P.meaning process)) (map entry_of exchanges.old) }
+{
+    let verdict = inspect(&process, book);
+    let run = play(process, exchanges);
+    Rehearsal { verdict, run }
+}
+
 /// Inspects the book, opens a run of the process, makes the calls one after the other, each with its own buffer, and
 /// closes the run. The exchanges then have the replies. The book's verdict does not stop the run.
 pub fn rehearse<P: Process + Drop, B: Book>(
@@ -35,7 +53,5 @@ pub fn rehearse<P: Process + Drop, B: Book>(
     ensures law { Law (P.meaning process) (B.listing book.now) (told result.verdict) (map entry_of exchanges.old) (map entry_of exchanges.new) (closed_stands P.meaning result.run) }
 {
     law(&process, book);
-    let verdict = inspect(&process, book);
-    let run = play(process, exchanges);
-    Rehearsal { verdict, run }
+    hold(process, book, exchanges)
 }

@@ -71,7 +71,7 @@ fn draw(nodes: &[Node], edges: &[Edge]) -> TokenDrawing
     requires hosts { Hosts nodes.now }
     requires sources { Sources nodes.now edges.now }
     requires targets { Targets nodes.now edges.now }
-    ensures { drawing_of result ≡ record { nodes = nodes.entry.now; edges = edges.now } }
+    ensures { drawing_of result ≡ record { nodes = nodes.now; edges = edges.now } }
 {
     let cap = cap_of(nodes);
     TokenDrawing {

@@ -161,7 +161,7 @@ fn first_fault(nodes: &[Node], edges: &[Edge]) -> Result<(), DrawingFault>
 /// There is none just if the tables are good.
 pub fn examine(nodes: &[Node], edges: &[Edge]) -> Result<(), DrawingFault>
     ensures answer { told result ≡ examined nodes.now edges.now }
-    ensures good { Decides (gave (told result)) (Good (record { nodes = nodes.entry.now; edges = edges.now })) }
+    ensures good { Decides (gave (told result)) (Good (record { nodes = nodes.now; edges = edges.now })) }
 {
     first_fault(nodes, edges)
 }
