@@ -9,8 +9,8 @@ use Rattle.run.proofs.perform.make.Goals as goal
 pub returns : goal.returns
 returns g c =
     let run = c.args.run.now in
-    let m = means g.P.Process.meaning run in
-    let s = stands g.P.Process.meaning run in
+    let m = means run in
+    let s = stands run in
     let e = c.args.exchange.now in
     let lent = c.deref_mut.ensures in
     let done = c.answer-reply.ensures in

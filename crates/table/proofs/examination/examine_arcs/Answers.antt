@@ -1,20 +1,17 @@
-use Rattle.std.proofs.Common.{sym, ◌∙◌}
-use Rattle.std.proofs.lemmas.Bool.{cond-true, cond-false, le-leb, lt-leb}
-use Rattle.table.specs.Examination.{examined_arcs}
-use Rattle.process.proofs.Scans.{one_more, all_done}
+use Rattle.std.proofs.Common.{sym}
+use Rattle.std.proofs.lemmas.Result.{err_from_is_err_and}
+use Rattle.process.proofs.Scans.{all_done, no_fault, fault_at}
+use Rattle.process.specs.Examining.{first_fault}
+use Rattle.table.specs.Examination.{arc_fault}
 use Rattle.table.proofs.examination.examine_arcs.Goals as goal
 
-pub returns-then-arc-gt4095 : goal.returns-then-arc-gt4095
-returns-then-arc-gt4095 c =
-    sym (cond-false _ _ _ (lt-leb _ _ c.if-arc-gt4095.true)) ∙ one_more (examined_arcs c.args.rows c.loop-index.index) _ _ c.loop-index.invariant _ c.loop-index-test.true
-
-pub returns-then-not-is_ended : goal.returns-then-not-is_ended
-returns-then-not-is_ended c =
-    sym (cond-true _ _ _ (le-leb _ _ c.if-arc-gt4095.false) ∙ cond-false _ _ _ (sym c.is_ended.ensures ∙ c.if-not-is_ended.true)) ∙ one_more (examined_arcs c.args.rows c.loop-index.index) _ _ c.loop-index.invariant _ c.loop-index-test.true
+pub returns-in_err-examine_arc : goal.returns-in_err-examine_arc
+returns-in_err-examine_arc c =
+    let p = err_from_is_err_and c.from_residual.result c.from_residual.ensures.1 in
+    rw (p.1, p.2) (fault_at (arc_fault c.args.rows) _ _ c.loop-index.invariant _ _ _ c.loop-index-test.true (sym c.in_err-examine_arc.ensures))
 
 pub loop-index-preserved : goal.loop-index-preserved
-loop-index-preserved c =
-    sym (cond-true _ _ _ (le-leb _ _ c.if-arc-gt4095.false) ∙ cond-true _ _ _ (sym c.is_ended.ensures ∙ c.if-not-is_ended.false)) ∙ one_more (examined_arcs c.args.rows c.loop-index.index) _ _ c.loop-index.invariant _ c.loop-index-test.true
+loop-index-preserved c = no_fault (arc_fault c.args.rows) _ _ c.loop-index.invariant _ c.loop-index-test.true (sym c.in_ok-examine_arc.ensures)
 
 pub returns : goal.returns
-returns c = all_done (examined_arcs c.args.rows c.loop-index.index) _ _ c.loop-index.invariant c.loop-index-test.false
+returns c = all_done (first_fault (arc_fault c.args.rows) c.loop-index.index) _ _ c.loop-index.invariant c.loop-index-test.false
