@@ -1,10 +1,9 @@
 -- A safe row, cell by cell.
-use Rattle.std.specs.Prelude.{◌≡◌, ℕ, suc, ◌+◌, ◌-◌, ◌*◌, ◌<◌, ◌≤◌, Bool, true, false, cond, List, [], ◌∷◌, length, nat_le, slice_index, slice_index_or, refl}
+use Rattle.std.specs.Prelude.{◌≡◌, ℕ, suc, ◌+◌, ◌-◌, ◌*◌, ◌<◌, ◌≤◌, Bool, true, false, cond, List, [], ◌∷◌, length, nat_le, slice_index, slice_index_or}
 use Rattle.std.proofs.Common.{subst, inl, inr, arith}
 use Rattle.std.proofs.lemmas.List.{get_or_past}
 use Rattle.std.proofs.lemmas.Bool.{and_parts, ltb-true, leb-true, eqb-true, cases_lt}
 use Rattle.process.specs.Meaning.{Row}
-use Rattle.process.proofs.Every.{decides_all}
 use Rattle.token_tables.specs.declared.node.Node.{Node}
 use Rattle.token_tables.specs.declared.mode.Mode.TheVariants as mode
 use Rattle.token_tables.specs.Kinds.{same_mode}
@@ -12,6 +11,7 @@ use Rattle.token_tables.specs.Tables.{Drawing, n_of, e_of, no_node, no_edge, nod
 use Rattle.token.specs.Clocks.{is_after, clock_top, cap_of}
 use Rattle.token.specs.Rows.{f_of, day_of, width_of, node_fits, nodes_fit, edges_fit, safe}
 use Rattle.token.specs.Known.{Amounts, AtMost}
+use Rattle.token.specs.Numbered.{decides_each}
 
 pub record Fits (d : Drawing) (r : Row) : Type 0 where
   pub some : 0 < n_of d
@@ -25,10 +25,10 @@ pub fits_of : (d : Drawing) (r : Row) → safe d r ≡ true → Fits d r
 fits_of d r h =
     let p = and_parts _ _ h in
     let size = and_parts _ _ p.0 in
-    let q = and_parts (nodes_fit (n_of d) 0 d.nodes r) _ p.1 in
-    let t = and_parts (edges_fit (f_of d) 0 d.edges r) _ q.1 in
-    let nodes : (k : ℕ) → k < n_of d → node_fits (node_at d k) (slice_index r k) (slice_index r (n_of d + k)) ≡ true = (decides_all _ _ (λ i xs. nodes_fit (n_of d) i xs r) (λ i. refl) (λ i x xs. refl) (λ i x. (λ h. h, λ h. h)) no_node d.nodes).0 q.0 in
-    let edges : (k : ℕ) → k < e_of d → nat_le (slice_index r (f_of d + k)) 1 ≡ true = (decides_all _ _ (λ i xs. edges_fit (f_of d) i xs r) (λ i. refl) (λ i x xs. refl) (λ i x. (λ h. h, λ h. h)) no_edge d.edges).0 t.0 in
+    let q = and_parts (nodes_fit d.nodes r) _ p.1 in
+    let t = and_parts (edges_fit (f_of d) d.edges r) _ q.1 in
+    let nodes : (k : ℕ) → k < n_of d → node_fits (node_at d k) (slice_index r k) (slice_index r (n_of d + k)) ≡ true = (decides_each _ (λ i x. (λ h. h, λ h. h)) no_node d.nodes).0 q.0 in
+    let edges : (k : ℕ) → k < e_of d → nat_le (slice_index r (f_of d + k)) 1 ≡ true = (decides_each _ (λ i x. (λ h. h, λ h. h)) no_edge d.edges).0 t.0 in
     record {
       some = ltb-true _ _ size.0;
       long = eqb-true _ _ size.1;
