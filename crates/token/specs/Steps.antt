@@ -11,8 +11,12 @@ use Rattle.token.specs.Rules.{up, down, clear, sweep, is_boundary_of, start_one,
 use Rattle.token.specs.Tame.{Tame, tame_more, tame_none, tame_zero, tame_up, tame_down, tame_if, tame_both, tame_clear, tame_sweep, at_most_by}
 
 module _ (w : ℕ) where
+  -- a change that raises no cell raises none by more than one
+  pub tame_by_one : (f : Row → Row) → Tame w 0 f → Tame w 1 f
+  tame_by_one f t = tame_more w 0 1 f (omega arith) t
+
   tame_still : Tame w 1 (λ r. r)
-  tame_still = tame_more w 0 1 (λ r. r) (omega arith) (tame_none w)
+  tame_still = tame_by_one (λ r. r) (tame_none w)
 
   pub start_tame : (i : ℕ) (x : Node) → Tame w 1 (start_one i x)
   start_tame i x = tame_if w 1 (λ r. is_begin x.kind) (λ r. up r i) (λ r. r) (tame_up w i) tame_still

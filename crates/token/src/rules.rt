@@ -8,7 +8,7 @@ ghost use Rattle.token.specs.Drawn.{drawing_of};
 
 use crate::act::Act;
 use crate::changes::{
-    arm_all, clear_node, disarm_all, give_all, lower, mark_starts, pass_clocks, raise, take_all,
+    Arm, Disarm, Give, Start, Take, clear_node, lower, pass_clocks, raise, sweep,
 };
 use crate::rows::{any_is_due, edges_fit, is_ready, node_is_due, nodes_fit};
 use crate::token_drawing::TokenDrawing;
@@ -198,7 +198,7 @@ impl TokenDrawing {
         ensures { out.new ≡ start_row (drawing_of self.now) }
     {
         out.fill(0);
-        mark_starts(self.node_list(), out);
+        sweep(self.node_list(), Start, out);
     }
 
     // One unit passes.
@@ -218,20 +218,42 @@ impl TokenDrawing {
     fn cede_by_kind(&self, n: usize, out: &mut [u16])
         requires node { n < n_of (drawing_of self.now) }
         requires long { length out.old ≡ width_of (drawing_of self.now) }
+        requires low { AtMost 10000 out.old }
         ensures { out.new ≡ ceded (node_at (drawing_of self.now) n).kind (drawing_of self.now) n out.old }
     {
         let nodes = self.node_list();
         match nodes[n].kind {
             Kind::Task => {
                 clear_node(nodes.len(), n, out);
-                disarm_all(nodes, n, out);
+                sweep(
+                    nodes,
+                    Disarm {
+                        nodes: nodes.len(),
+                        task: n,
+                    },
+                    out,
+                );
             }
-            Kind::Parallel => take_all(self.edge_list(), 2 * nodes.len(), n, out),
+            Kind::Parallel => sweep(
+                self.edge_list(),
+                Take {
+                    first: 2 * nodes.len(),
+                    into: n,
+                },
+                out,
+            ),
             Kind::Stopping => {
                 let host = nodes[n].host as usize;
                 clear_node(nodes.len(), n, out);
                 out[host] = 0;
-                disarm_all(nodes, host, out);
+                sweep(
+                    nodes,
+                    Disarm {
+                        nodes: nodes.len(),
+                        task: host,
+                    },
+                    out,
+                );
             }
             _ => clear_node(nodes.len(), n, out),
         }
@@ -256,7 +278,14 @@ impl TokenDrawing {
         ensures { out.new ≡ completed (drawing_of self.now) n out.old }
     {
         self.cede(n, out);
-        give_all(self.edge_list(), 2 * self.node_list().len(), n, out);
+        sweep(
+            self.edge_list(),
+            Give {
+                first: 2 * self.node_list().len(),
+                from: n,
+            },
+            out,
+        );
     }
 
     // All marks and clocks of nodes, and all marks of edges, become 0.
@@ -279,9 +308,23 @@ impl TokenDrawing {
         match nodes[n].kind {
             Kind::Task => {
                 raise(n, out);
-                arm_all(nodes, n, out);
+                sweep(
+                    nodes,
+                    Arm {
+                        nodes: nodes.len(),
+                        task: n,
+                    },
+                    out,
+                );
             }
-            Kind::Exclusive => give_all(self.edge_list(), 2 * nodes.len(), n, out),
+            Kind::Exclusive => sweep(
+                self.edge_list(),
+                Give {
+                    first: 2 * nodes.len(),
+                    from: n,
+                },
+                out,
+            ),
             Kind::Wait => {
                 raise(n, out);
                 out[nodes.len() + n] = 0;
@@ -316,7 +359,14 @@ impl TokenDrawing {
     {
         let edges = self.edge_list();
         let first = 2 * self.node_list().len();
-        take_all(edges, first, edges[e].source as usize, out);
+        sweep(
+            edges,
+            Take {
+                first,
+                into: edges[e].source as usize,
+            },
+            out,
+        );
         raise(first + e, out);
     }
 

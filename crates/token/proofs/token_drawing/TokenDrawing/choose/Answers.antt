@@ -10,6 +10,6 @@ raise-requires c = record {
   low =
       let first = 2 * length c.node_list.result.now in
       let edges = c.edge_list-edges.result.now in
-      let low : AtMost 10000 c.take_all.new.out = taken_low first (get_or edges c.args.e no_edge).source 10000 edges c.args.out.now _ c.take_all.ensures c.requires.low in
+      let low : AtMost 10000 c.sweep.new.out = taken_low first (get_or edges c.args.e no_edge).source 10000 edges c.args.out.now _ c.sweep.ensures c.requires.low in
       omega (arith, low (first + c.args.e));
 }
