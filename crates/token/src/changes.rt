@@ -37,7 +37,7 @@ pub(crate) fn clear_node(n: usize, i: usize, out: &mut [u16])
 
 // What each of a list, of nodes or of edges, changes in a row.
 pub(crate) trait Change<T> {
-    // The last cell that the first of them may change; the next one goes with the next cell.
+    // The last cell that the first of them may change; each next one's is the next cell.
     ghost first: { Self → ℕ };
 
     // The row that the i-th makes of a row.
@@ -82,7 +82,7 @@ impl Change<Node> for Start {
     ghost tame = { λ _ width. start_tame width };
 }
 
-// Each edge out of a node gains a mark; that of the first edge is in cell `first`.
+// Each edge out of a node gains a mark; the first edge has its marks in cell `first`.
 #[derive(Clone, Copy)]
 pub(crate) struct Give {
     pub(crate) first: usize,
@@ -103,7 +103,7 @@ impl Change<Edge> for Give {
     ghost tame = { λ change width. give_tame width change.first change.from };
 }
 
-// Each edge into a node loses a mark; that of the first edge is in cell `first`.
+// Each edge into a node loses a mark; the first edge has its marks in cell `first`.
 #[derive(Clone, Copy)]
 pub(crate) struct Take {
     pub(crate) first: usize,
@@ -124,47 +124,47 @@ impl Change<Edge> for Take {
     ghost tame = { λ change width i edge. tame_by_one width _ (take_tame width change.first change.into i edge) };
 }
 
-// Each boundary of a task, of so many nodes, loses its marks, and its clock becomes 0.
+// Each boundary of a task loses its marks, and its clock becomes 0; the first node has its clock in cell `first`.
 #[derive(Clone, Copy)]
 pub(crate) struct Disarm {
-    pub(crate) nodes: usize,
+    pub(crate) first: usize,
     pub(crate) task: usize,
 }
 
 impl Change<Node> for Disarm {
-    ghost first = { λ change. change.nodes };
+    ghost first = { λ change. change.first };
 
-    ghost makes = { λ change. disarm_one change.nodes change.task };
+    ghost makes = { λ change. disarm_one change.first change.task };
 
     fn make(&self, i: usize, node: Node, out: &mut [u16]) {
         if is_boundary_of(self.task, node) {
-            clear_node(self.nodes, i, out);
+            clear_node(self.first, i, out);
         }
     }
 
-    ghost tame = { λ change width i node. tame_by_one width _ (disarm_tame width change.nodes change.task i node) };
+    ghost tame = { λ change width i node. tame_by_one width _ (disarm_tame width change.first change.task i node) };
 }
 
-// Each boundary of a task, of so many nodes, gains a mark, and its clock becomes 0.
+// Each boundary of a task gains a mark, and its clock becomes 0; the first node has its clock in cell `first`.
 #[derive(Clone, Copy)]
 pub(crate) struct Arm {
-    pub(crate) nodes: usize,
+    pub(crate) first: usize,
     pub(crate) task: usize,
 }
 
 impl Change<Node> for Arm {
-    ghost first = { λ change. change.nodes };
+    ghost first = { λ change. change.first };
 
-    ghost makes = { λ change. arm_one change.nodes change.task };
+    ghost makes = { λ change. arm_one change.first change.task };
 
     fn make(&self, i: usize, node: Node, out: &mut [u16]) {
         if is_boundary_of(self.task, node) {
             raise(i, out);
-            out[self.nodes + i] = 0;
+            out[self.first + i] = 0;
         }
     }
 
-    ghost tame = { λ change width. arm_tame width change.nodes change.task };
+    ghost tame = { λ change width. arm_tame width change.first change.task };
 }
 
 fn pass_one(n: usize, i: usize, node: Node, out: &mut [u16])
@@ -177,7 +177,7 @@ fn pass_one(n: usize, i: usize, node: Node, out: &mut [u16])
     }
 }
 
-// The clock of each marked node that waits for its length rises by one. This stays a loop over the nodes by index.
+// The clock of each marked node that waits for its length rises by one. It stays a plain loop over the nodes by index, as this project wants the passing unit written.
 pub(crate) fn pass_clocks(nodes: &[Node], out: &mut [u16])
     requires long { 2 * length nodes.now ≤ length out.old }
     requires few { length nodes.now ≤ 64 }

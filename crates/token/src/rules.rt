@@ -1,8 +1,8 @@
 //! What each act asks for, and what it does.
-ghost use Rattle.std.specs.Prelude.{◌≡◌, ◌<◌, length};
+ghost use Rattle.std.specs.Prelude.{◌≡◌, ℕ, ◌<◌, length};
 ghost use Rattle.token_tables.specs.Tables.{n_of, e_of, node_at};
 ghost use Rattle.token.specs.Rows.{day_of, width_of, safe};
-ghost use Rattle.token.specs.Rules.{choices_of, act_of, Of, any_due, is_due, is_enterable, may_complete, may_enter, may_choose, may_free, may_urgent, may, wiped, start_row, passed, ceded, completed, entered, after_enter, after_choose, made};
+ghost use Rattle.token.specs.Rules.{choices_of, act_of, Of, any_due, is_due, is_enterable, may_complete, may_enter, may_choose, may_free, may_urgent, may, wiped, start_row, given, taken, disarmed, armed, passed, ceded, completed, entered, after_enter, after_choose, made};
 ghost use Rattle.token.specs.Known.{AtMost};
 ghost use Rattle.token.specs.Drawn.{drawing_of};
 
@@ -214,52 +214,63 @@ impl TokenDrawing {
         }
     }
 
-    // What goes when the node completes.
-    fn cede_by_kind(&self, n: usize, out: &mut [u16])
-        requires node { n < n_of (drawing_of self.now) }
+    // Each edge out of the node gains a mark.
+    fn give(&self, n: usize, out: &mut [u16])
         requires long { length out.old ≡ width_of (drawing_of self.now) }
-        requires low { AtMost 10000 out.old }
-        ensures { out.new ≡ ceded (node_at (drawing_of self.now) n).kind (drawing_of self.now) n out.old }
+        requires low { AtMost 20000 out.old }
+        ensures { out.new ≡ given (drawing_of self.now) n out.old }
     {
-        let nodes = self.node_list();
-        match nodes[n].kind {
-            Kind::Task => {
-                clear_node(nodes.len(), n, out);
-                sweep(
-                    nodes,
-                    Disarm {
-                        nodes: nodes.len(),
-                        task: n,
-                    },
-                    out,
-                );
-            }
-            Kind::Parallel => sweep(
-                self.edge_list(),
-                Take {
-                    first: 2 * nodes.len(),
-                    into: n,
-                },
-                out,
-            ),
-            Kind::Stopping => {
-                let host = nodes[n].host as usize;
-                clear_node(nodes.len(), n, out);
-                out[host] = 0;
-                sweep(
-                    nodes,
-                    Disarm {
-                        nodes: nodes.len(),
-                        task: host,
-                    },
-                    out,
-                );
-            }
-            _ => clear_node(nodes.len(), n, out),
-        }
+        let first = 2 * self.node_list().len();
+        sweep(self.edge_list(), Give { first, from: n }, out);
     }
 
-    // The same, with the bound on the cells that it keeps.
+    // Each edge into the node loses a mark.
+    fn take(&self, n: usize, out: &mut [u16])
+        requires long { length out.old ≡ width_of (drawing_of self.now) }
+        requires low { AtMost 20000 out.old }
+        ensures same { out.new ≡ taken (drawing_of self.now) n out.old }
+        ensures low { (most : ℕ) → AtMost most out.old → AtMost most out.new }
+    {
+        let first = 2 * self.node_list().len();
+        sweep(self.edge_list(), Take { first, into: n }, out);
+    }
+
+    // Each boundary of the task gains a mark, and its clock becomes 0.
+    fn arm(&self, task: usize, out: &mut [u16])
+        requires long { length out.old ≡ width_of (drawing_of self.now) }
+        requires low { AtMost 20000 out.old }
+        ensures { out.new ≡ armed (drawing_of self.now) task out.old }
+    {
+        let nodes = self.node_list();
+        sweep(
+            nodes,
+            Arm {
+                first: nodes.len(),
+                task,
+            },
+            out,
+        );
+    }
+
+    // Each boundary of the task loses its marks, and its clock becomes 0.
+    fn disarm(&self, task: usize, out: &mut [u16])
+        requires long { length out.old ≡ width_of (drawing_of self.now) }
+        requires low { AtMost 20000 out.old }
+        ensures same { out.new ≡ disarmed (drawing_of self.now) task out.old }
+        ensures low { (most : ℕ) → AtMost most out.old → AtMost most out.new }
+    {
+        let nodes = self.node_list();
+        sweep(
+            nodes,
+            Disarm {
+                first: nodes.len(),
+                task,
+            },
+            out,
+        );
+    }
+
+    // What goes when the node completes.
     fn cede(&self, n: usize, out: &mut [u16])
         requires node { n < n_of (drawing_of self.now) }
         requires long { length out.old ≡ width_of (drawing_of self.now) }
@@ -267,7 +278,21 @@ impl TokenDrawing {
         ensures same { out.new ≡ ceded (node_at (drawing_of self.now) n).kind (drawing_of self.now) n out.old }
         ensures low { AtMost 10000 out.new }
     {
-        self.cede_by_kind(n, out);
+        let nodes = self.node_list();
+        match nodes[n].kind {
+            Kind::Task => {
+                clear_node(nodes.len(), n, out);
+                self.disarm(n, out);
+            }
+            Kind::Parallel => self.take(n, out),
+            Kind::Stopping => {
+                let host = nodes[n].host as usize;
+                clear_node(nodes.len(), n, out);
+                out[host] = 0;
+                self.disarm(host, out);
+            }
+            _ => clear_node(nodes.len(), n, out),
+        }
     }
 
     // The node completes: first it takes, then it gives.
@@ -278,14 +303,7 @@ impl TokenDrawing {
         ensures { out.new ≡ completed (drawing_of self.now) n out.old }
     {
         self.cede(n, out);
-        sweep(
-            self.edge_list(),
-            Give {
-                first: 2 * self.node_list().len(),
-                from: n,
-            },
-            out,
-        );
+        self.give(n, out);
     }
 
     // All marks and clocks of nodes, and all marks of edges, become 0.
@@ -308,23 +326,9 @@ impl TokenDrawing {
         match nodes[n].kind {
             Kind::Task => {
                 raise(n, out);
-                sweep(
-                    nodes,
-                    Arm {
-                        nodes: nodes.len(),
-                        task: n,
-                    },
-                    out,
-                );
+                self.arm(n, out);
             }
-            Kind::Exclusive => sweep(
-                self.edge_list(),
-                Give {
-                    first: 2 * nodes.len(),
-                    from: n,
-                },
-                out,
-            ),
+            Kind::Exclusive => self.give(n, out),
             Kind::Wait => {
                 raise(n, out);
                 out[nodes.len() + n] = 0;
@@ -357,17 +361,8 @@ impl TokenDrawing {
         requires low { AtMost 10000 out.old }
         ensures { out.new ≡ after_choose (drawing_of self.now) e out.old }
     {
-        let edges = self.edge_list();
-        let first = 2 * self.node_list().len();
-        sweep(
-            edges,
-            Take {
-                first,
-                into: edges[e].source as usize,
-            },
-            out,
-        );
-        raise(first + e, out);
+        self.take(self.edge_list()[e].source as usize, out);
+        raise(2 * self.node_list().len() + e, out);
     }
 
     // Does what the act does.
