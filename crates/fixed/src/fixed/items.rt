@@ -1,0 +1,48 @@
+//! The items of a list of a fixed room.
+ghost use Rattle.std.specs.Prelude.{⊤, ◌≡◌, ◌≤◌, length, take};
+ghost use Rattle.fixed.specs.Items.{items_of};
+
+use super::Fixed;
+use std::alloc::AllocError;
+
+impl<T: Copy, const N: usize> Fixed<T, N> {
+    /// The list of these items, but for those past the first N. The rest of the array holds `unused`.
+    pub fn new(items: &[T], unused: T) -> Fixed<T, N>
+        ensures { items_of result ≡ take N items.now }
+    {
+        let len = items.len().min(N);
+        let mut array = [unused; N];
+        let all: &mut [T] = &mut array;
+        all[0..len].copy_from_slice(&items[0..len]);
+        Fixed { array, len }
+    }
+
+    /// Puts these items in place of its own, but for those past the first N.
+    pub fn replace(&mut self, items: &[T])
+        ensures { items_of self.new ≡ take N items.now }
+    {
+        let len = items.len().min(N);
+        let all: &mut [T] = &mut self.array;
+        all[0..len].copy_from_slice(&items[0..len]);
+        self.len = len;
+    }
+
+    /// The items.
+    pub fn as_slice(&self) -> &[T]
+        ensures items { result.now ≡ items_of self.now }
+        ensures fits { length result.now ≤ N }
+    {
+        let all: &[T] = &self.array;
+        &all[0..self.len]
+    }
+}
+
+impl<T: Copy, const N: usize> Clone for Fixed<T, N> {
+    ghost is_clone = { λ x y. y ≡ x };
+
+    ghost is_infallible = { λ _. ⊤ };
+
+    fn clone(&self) -> Result<Self, AllocError> {
+        Ok(*self)
+    }
+}
