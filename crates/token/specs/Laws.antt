@@ -1,7 +1,7 @@
 -- What every process keeps to, of a drawing.
 use Rattle.std.specs.Prelude.{◌≡◌, ℕ, ◌+◌, ◌*◌, ◌≤◌, Bool, true, false, ◌&&◌, length, replicate, Some, None, nat_lt, slice_index, slice_set, refl}
 use Rattle.std.proofs.Common.{ap, ◌∙◌, sym, inl, inr, arith}
-use Rattle.std.proofs.lemmas.List.{get_or_past, get_or-replicate, length-replicate}
+use Rattle.std.proofs.lemmas.List.{get_or_past, get_or-replicate, length-replicate, length-take}
 use Rattle.std.proofs.lemmas.Bool.{and_parts, cases_lt}
 use Rattle.process.specs.Meaning.{Row, IsRow, Lawful}
 use Rattle.process.specs.Bounds.{Within}
@@ -125,9 +125,12 @@ module _ (d : Drawing) (small : Small d) where
     next_row = λ r s c i l h. made_row amounts r s c h;
   }
 
+small : (p : TokenDrawing) → Small (drawing_of p)
+small p = record { few = omega (arith, length-take p.nodes.len p.nodes.array, p.nodes.fits); thin = omega (arith, length-take p.edges.len p.edges.array, p.edges.fits) }
+
 -- the same of a drawing of the code
 pub lawful_drawing : (p : TokenDrawing) → Lawful (means p)
-lawful_drawing p = lawful_of (drawing_of p) (record { few = p.few; thin = p.thin }) p.amounts
+lawful_drawing p = lawful_of (drawing_of p) (small p) p.amounts
 
 pub within_drawing : (p : TokenDrawing) → Within (record { widest = 257; most_choices = 321 }) (means p)
-within_drawing p = record { width = omega (arith, p.few, p.thin); choices = omega (arith, p.few, p.thin); widest = omega arith; most = omega arith }
+within_drawing p = record { width = omega (arith, (small p).few, (small p).thin); choices = omega (arith, (small p).few, (small p).thin); widest = omega arith; most = omega arith }
