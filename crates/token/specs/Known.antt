@@ -1,21 +1,20 @@
 -- What each drawing keeps, so that no cell and no node is looked for where there is none, and no cell overflows.
-use Rattle.std.specs.Prelude.{ℕ, ◌<◌, ◌≤◌, List, length, slice_index, slice_index_or}
+use Rattle.std.specs.Prelude.{ℕ, ◌<◌, ◌≤◌, List, length, All, slice_index}
 use Rattle.process.specs.Meaning.{Row}
 use Rattle.token_tables.specs.declared.node.Node.{Node}
 use Rattle.token_tables.specs.declared.edge.Edge.{Edge}
-use Rattle.token_tables.specs.Tables.{no_node, no_edge}
 
 abbrev pub Amounts : List Node → Type 0
-Amounts ns = (k : ℕ) → (slice_index_or ns k no_node).amount ≤ 9999
+Amounts ns = All (λ (x : Node). x.amount ≤ 9999) ns
 
 abbrev pub Hosts : List Node → Type 0
-Hosts ns = (k : ℕ) → k < length ns → (slice_index_or ns k no_node).host < length ns
+Hosts ns = All (λ (x : Node). x.host < length ns) ns
 
 abbrev pub Sources : List Node → List Edge → Type 0
-Sources ns es = (k : ℕ) → k < length es → (slice_index_or es k no_edge).source < length ns
+Sources ns es = All (λ (x : Edge). x.source < length ns) es
 
 abbrev pub Targets : List Node → List Edge → Type 0
-Targets ns es = (k : ℕ) → k < length es → (slice_index_or es k no_edge).target < length ns
+Targets ns es = All (λ (x : Edge). x.target < length ns) es
 
 -- no cell of a row passes b
 abbrev pub AtMost : ℕ → Row → Type 0

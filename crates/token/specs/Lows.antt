@@ -1,5 +1,5 @@
 -- A safe row, cell by cell.
-use Rattle.std.specs.Prelude.{◌≡◌, ℕ, suc, ◌+◌, ◌-◌, ◌*◌, ◌<◌, ◌≤◌, Bool, true, false, cond, List, [], ◌∷◌, length, nat_le, slice_index, slice_index_or}
+use Rattle.std.specs.Prelude.{◌≡◌, ℕ, suc, ◌+◌, ◌-◌, ◌*◌, ◌<◌, ◌≤◌, Bool, true, false, cond, List, [], ◌∷◌, length, fold, max, nat_le, slice_index, slice_index_or}
 use Rattle.std.proofs.Common.{subst, inl, inr, arith}
 use Rattle.std.proofs.lemmas.List.{get_or_past}
 use Rattle.std.proofs.lemmas.Bool.{and_parts, ltb-true, leb-true, eqb-true, cases_lt}
@@ -8,7 +8,7 @@ use Rattle.token_tables.specs.declared.node.Node.{Node}
 use Rattle.token_tables.specs.declared.mode.Mode.TheVariants as mode
 use Rattle.token_tables.specs.Kinds.{same_mode}
 use Rattle.token_tables.specs.Tables.{Drawing, n_of, e_of, no_node, no_edge, node_at}
-use Rattle.token.specs.Clocks.{is_after, clock_top, cap_of}
+use Rattle.token.specs.Clocks.{is_after, clock_top, day_after, cap_of}
 use Rattle.token.specs.Rows.{f_of, day_of, width_of, node_fits, nodes_fit, edges_fit, safe}
 use Rattle.token.specs.Known.{Amounts, AtMost}
 use Rattle.token.specs.Numbered.{decides_each}
@@ -42,9 +42,12 @@ falls : (b : Bool) (x : ℕ) → cond b x 0 ≤ x
 falls true x = omega arith
 falls false x = omega arith
 
+cap_below : (ns : List Node) (cap : ℕ) → Amounts ns → cap ≤ 10000 → fold (λ most x. max most (day_after x)) cap ns ≤ 10000
+cap_below [] cap h l = l
+cap_below (x ∷ xs) cap h l = cap_below xs (max cap (day_after x)) (λ k d m. h (suc k) d (omega arith)) (omega (arith, falls (same_mode x.mode mode.At) (x.amount + 1), h 0 x (omega arith)))
+
 pub cap_low : (ns : List Node) → Amounts ns → cap_of ns ≤ 10000
-cap_low [] h = omega arith
-cap_low (x ∷ xs) h = omega (arith, falls (same_mode x.mode mode.At) (x.amount + 1), h 0, cap_low xs (λ k. h (suc k)))
+cap_low ns h = cap_below ns 0 h (omega arith)
 
 pub safe_low : (d : Drawing) (r : Row) → Amounts d.nodes → safe d r ≡ true → AtMost 10000 r
 safe_low d r amounts h k =

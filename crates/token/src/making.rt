@@ -38,11 +38,7 @@ fn cap_of(nodes: &[Node]) -> u16
     requires { Amounts nodes.now }
     ensures { result ≡ cap_of nodes.now }
 {
-    let mut cap = 0;
-    for node in nodes {
-        cap = day_after(*node).max(cap);
-    }
-    cap
+    nodes.iter().map(|node| day_after(*node)).max().unwrap_or(0)
 }
 
 // The drawing of these tables.
