@@ -10,21 +10,13 @@ use Rattle.token_tables.specs.Kinds.{is_boundary}
 use Rattle.token_tables.specs.Tables.{no_node, no_edge}
 use Rattle.token_tables.specs.Examination.{amount_fits}
 use Rattle.token_tables.specs.Good.{Good}
-use Rattle.token.specs.Known.{Amounts, Hosts, Sources, Targets}
+use Rattle.token.specs.Known.{Known}
 
 amount_low : (m : Mode) (a : ℕ) → amount_fits m a ≡ true → a ≤ 9999
 amount_low mode.Untimed a h = omega (arith, eqb-true a 0 h)
 amount_low mode.At a h = leb-true a 9999 h
 amount_low mode.After a h = leb-true a 9999 h
 amount_low (mode.Other number) a h = absurd (both_ways false refl h)
-
-pub record Known (ns : List Node) (es : List Edge) : Type 0 where
-  pub few : length ns ≤ 64
-  pub thin : length es ≤ 128
-  pub amounts : Amounts ns
-  pub hosts : Hosts ns
-  pub sources : Sources ns es
-  pub targets : Targets ns es
 
 -- what holds at each place of a list holds of each element
 all_at : {X : Type 0} (P : X → Type 0) (z : X) (xs : List X) → ((k : ℕ) → k < length xs → P (get_or xs k z)) → All P xs

@@ -16,6 +16,15 @@ Sources ns es = All (λ (x : Edge). x.source < length ns) es
 abbrev pub Targets : List Node → List Edge → Type 0
 Targets ns es = All (λ (x : Edge). x.target < length ns) es
 
+-- the tables of a drawing
+pub record Known (ns : List Node) (es : List Edge) : Type 0 where
+  pub few : length ns ≤ 64
+  pub thin : length es ≤ 128
+  pub amounts : Amounts ns
+  pub hosts : Hosts ns
+  pub sources : Sources ns es
+  pub targets : Targets ns es
+
 -- no cell of a row passes b
 abbrev pub AtMost : ℕ → Row → Type 0
 AtMost b r = (k : ℕ) → slice_index r k ≤ b

@@ -1,7 +1,7 @@
 //! How a drawing is made of tables.
 ghost use Rattle.std.specs.Prelude.{◌≡◌, ◌≤◌, length};
 ghost use Rattle.token.specs.Clocks.{day_after, cap_of};
-ghost use Rattle.token.specs.Known.{Amounts, Hosts, Sources, Targets};
+ghost use Rattle.token.specs.Known.{Amounts, Known};
 ghost use Rattle.token.specs.Drawn.{drawing_of, drawn};
 
 use crate::token_drawing::TokenDrawing;
@@ -43,12 +43,7 @@ fn cap_of(nodes: &[Node]) -> u16
 
 // The drawing of these tables.
 fn draw(nodes: &[Node], edges: &[Edge]) -> TokenDrawing
-    requires few { length nodes.now ≤ 64 }
-    requires thin { length edges.now ≤ 128 }
-    requires amounts { Amounts nodes.now }
-    requires hosts { Hosts nodes.now }
-    requires sources { Sources nodes.now edges.now }
-    requires targets { Targets nodes.now edges.now }
+    requires { Known nodes.now edges.now }
     ensures { drawing_of result ≡ record { nodes = nodes.now; edges = edges.now } }
 {
     TokenDrawing {

@@ -1,5 +1,5 @@
 //! What each act asks for, and what it does.
-ghost use Rattle.std.specs.Prelude.{◌≡◌, ℕ, ◌<◌, ◌≤◌, length};
+ghost use Rattle.std.specs.Prelude.{◌≡◌, ℕ, ◌<◌, length};
 ghost use Rattle.token_tables.specs.Tables.{n_of, e_of, node_at};
 ghost use Rattle.token.specs.Rows.{day_of, width_of, safe};
 ghost use Rattle.token.specs.Rules.{choices_of, act_of, Of, any_due, is_due, is_enterable, may_complete, may_enter, may_choose, may_free, may_urgent, may, wiped, start_row, given, taken, disarmed, armed, passed, ceded, completed, entered, after_enter, after_choose, made};
@@ -27,15 +27,13 @@ fn is_enterable(kind: Kind, leaving: usize) -> bool
 
 impl TokenDrawing {
     pub(crate) fn node_list(&self) -> &[Node]
-        ensures nodes { result.now ≡ (drawing_of self.now).nodes }
-        ensures few { length result.now ≤ 64 }
+        ensures { result.now ≡ (drawing_of self.now).nodes }
     {
         self.nodes.as_slice()
     }
 
     pub(crate) fn edge_list(&self) -> &[Edge]
-        ensures edges { result.now ≡ (drawing_of self.now).edges }
-        ensures thin { length result.now ≤ 128 }
+        ensures { result.now ≡ (drawing_of self.now).edges }
     {
         self.edges.as_slice()
     }

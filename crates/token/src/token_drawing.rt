@@ -2,7 +2,7 @@
 ghost use Rattle.std.specs.Prelude.{◌≡◌};
 ghost use Rattle.fixed.specs.Items.{items_of};
 ghost use Rattle.token.specs.Clocks.{cap_of};
-ghost use Rattle.token.specs.Known.{Amounts, Hosts, Sources, Targets};
+ghost use Rattle.token.specs.Known.{Known};
 
 use fixed::Fixed;
 use token_tables::{Edge, Node};
@@ -13,9 +13,6 @@ pub struct TokenDrawing {
     pub(crate) nodes: Fixed<Node, 64>,
     pub(crate) edges: Fixed<Edge, 128>,
     pub(crate) cap: u16,
-    ghost amounts: { Amounts (items_of nodes) },
-    ghost hosts: { Hosts (items_of nodes) },
-    ghost sources: { Sources (items_of nodes) (items_of edges) },
-    ghost targets: { Targets (items_of nodes) (items_of edges) },
+    ghost known: { Known (items_of nodes) (items_of edges) },
     ghost capped: { cap ≡ cap_of (items_of nodes) },
 }

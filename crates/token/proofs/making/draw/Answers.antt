@@ -7,7 +7,7 @@ pub invariant_of-result : goal.invariant_of-result
 invariant_of-result c =
     let ns : items_of c.new.result ≡ c.args.nodes.now = c.new.ensures ∙ take_all _ _ c.requires.few in
     let es : items_of c.new-2.result ≡ c.args.edges.now = c.new-2.ensures ∙ take_all _ _ c.requires.thin in
-    rw (ns, es) (record { amounts = c.requires.amounts; hosts = c.requires.hosts; sources = c.requires.sources; targets = c.requires.targets; capped = c.cap_of.ensures })
+    rw (ns, es) (record { known = c.requires; capped = c.cap_of.ensures })
 
 pub returns : goal.returns
 returns c =
