@@ -5,6 +5,7 @@ pub mod Rules
 pub mod Reading
 pub mod Known
 pub mod Drawn
+pub mod Marked
 pub mod Laws
 pub mod Tame
 pub mod Steps

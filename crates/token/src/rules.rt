@@ -1,8 +1,8 @@
-//! What each act asks for, and what it does.
+//! What each act does.
 ghost use Rattle.std.specs.Prelude.{◌≡◌, ℕ, ◌<◌, length};
 ghost use Rattle.token_tables.specs.Tables.{n_of, e_of, node_at};
 ghost use Rattle.token.specs.Rows.{day_of, width_of, safe};
-ghost use Rattle.token.specs.Rules.{choices_of, act_of, Of, any_due, is_due, is_enterable, may_complete, may_enter, may_choose, may_free, may_urgent, may, wiped, start_row, given, taken, disarmed, armed, passed, ceded, completed, entered, after_enter, after_choose, made};
+ghost use Rattle.token.specs.Rules.{choices_of, act_of, Of, wiped, start_row, given, taken, disarmed, armed, passed, ceded, completed, entered, after_enter, after_choose, made};
 ghost use Rattle.token.specs.Known.{AtMost};
 ghost use Rattle.token.specs.Drawn.{drawing_of};
 
@@ -10,20 +10,9 @@ use crate::act::Act;
 use crate::changes::{
     Arm, Disarm, Give, Start, Take, clear_node, lower, pass_clocks, raise, sweep,
 };
-use crate::rows::{any_is_due, edges_fit, is_ready, node_is_due, nodes_fit};
+use crate::rows::{edges_fit, nodes_fit};
 use crate::token_drawing::TokenDrawing;
-use token_tables::{Edge, Kind, Node, count_leaving};
-
-// Whether a mark may go into a node of this kind, with so many edges out of it.
-fn is_enterable(kind: Kind, leaving: usize) -> bool
-    ensures { result ≡ is_enterable kind leaving }
-{
-    match kind {
-        Kind::Task | Kind::Wait | Kind::End | Kind::Terminate => true,
-        Kind::Exclusive => leaving == 1,
-        _ => false,
-    }
-}
+use token_tables::{Edge, Kind, Node};
 
 impl TokenDrawing {
     pub(crate) fn node_list(&self) -> &[Node]
@@ -91,102 +80,6 @@ impl TokenDrawing {
             && nodes_fit(nodes, row)
             && edges_fit(edges, 2 * nodes.len(), row)
             && row[day] <= self.cap
-    }
-
-    // Whether some node is due.
-    fn row_is_due(&self, row: &[u16]) -> bool
-        requires { length row.now ≡ width_of (drawing_of self.now) }
-        ensures { result ≡ any_due (drawing_of self.now) row.now }
-    {
-        any_is_due(self.node_list(), row[self.day_cell()], row)
-    }
-
-    // Whether this node is due.
-    pub(crate) fn is_due_at(&self, n: usize, row: &[u16]) -> bool
-        requires node { n < n_of (drawing_of self.now) }
-        requires long { length row.now ≡ width_of (drawing_of self.now) }
-        ensures { result ≡ is_due (drawing_of self.now) row.now n }
-    {
-        let nodes = self.node_list();
-        node_is_due(nodes[n], row[n], row[nodes.len() + n], row[self.day_cell()])
-    }
-
-    fn may_complete(&self, n: usize, row: &[u16]) -> bool
-        requires node { n < n_of (drawing_of self.now) }
-        requires long { length row.now ≡ width_of (drawing_of self.now) }
-        ensures { result ≡ may_complete (drawing_of self.now) row.now n }
-    {
-        let nodes = self.node_list();
-        match nodes[n].kind {
-            Kind::Start | Kind::Task => row[n] > 0,
-            Kind::Parallel => is_ready(self.edge_list(), 2 * nodes.len(), n, row),
-            _ => false,
-        }
-    }
-
-    fn may_enter(&self, e: usize, row: &[u16]) -> bool
-        requires edge { e < e_of (drawing_of self.now) }
-        requires long { length row.now ≡ width_of (drawing_of self.now) }
-        ensures { result ≡ may_enter (drawing_of self.now) row.now e }
-    {
-        let nodes = self.node_list();
-        let edges = self.edge_list();
-        let target = edges[e].target as usize;
-        row[2 * nodes.len() + e] > 0
-            && is_enterable(nodes[target].kind, count_leaving(edges, target))
-    }
-
-    fn may_choose(&self, e: usize, row: &[u16]) -> bool
-        requires edge { e < e_of (drawing_of self.now) }
-        requires long { length row.now ≡ width_of (drawing_of self.now) }
-        ensures { result ≡ may_choose (drawing_of self.now) row.now e }
-    {
-        let nodes = self.node_list();
-        let edges = self.edge_list();
-        let source = edges[e].source as usize;
-        nodes[source].kind == Kind::Exclusive
-            && count_leaving(edges, source) > 1
-            && is_ready(edges, 2 * nodes.len(), source, row)
-    }
-
-    // Whether the act is allowed while no node is due.
-    fn may_free(&self, act: Act, row: &[u16]) -> bool
-        requires at { Of (drawing_of self.now) act }
-        requires long { length row.now ≡ width_of (drawing_of self.now) }
-        ensures { result ≡ may_free (drawing_of self.now) row.now act }
-    {
-        match act {
-            Act::Pass => true,
-            Act::Complete { node } => self.may_complete(node, row),
-            Act::Enter { edge } => self.may_enter(edge, row),
-            Act::Choose { edge } => self.may_choose(edge, row),
-        }
-    }
-
-    // Whether the act is allowed while some node is due.
-    fn may_urgent(&self, act: Act, row: &[u16]) -> bool
-        requires at { Of (drawing_of self.now) act }
-        requires long { length row.now ≡ width_of (drawing_of self.now) }
-        ensures { result ≡ may_urgent (drawing_of self.now) row.now act }
-    {
-        match act {
-            Act::Complete { node } => self.is_due_at(node, row),
-            Act::Pass | Act::Enter { .. } | Act::Choose { .. } => false,
-        }
-    }
-
-    // Whether the act is allowed. Most acts are allowed neither way, and then nobody asks what is due.
-    pub(crate) fn may(&self, act: Act, row: &[u16]) -> bool
-        requires at { Of (drawing_of self.now) act }
-        requires long { length row.now ≡ width_of (drawing_of self.now) }
-        ensures { result ≡ may (drawing_of self.now) row.now act }
-    {
-        let urgent = self.may_urgent(act, row);
-        let free = self.may_free(act, row);
-        if urgent == free {
-            return free;
-        }
-        if self.row_is_due(row) { urgent } else { free }
     }
 
     // Writes the start row.
