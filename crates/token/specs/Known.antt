@@ -1,8 +1,10 @@
 -- What each drawing keeps, so that no cell and no node is looked for where there is none, and no cell overflows.
-use Rattle.std.specs.Prelude.{ℕ, ◌<◌, ◌≤◌, List, length, All, slice_index}
+use Rattle.std.specs.Prelude.{◌≡◌, ℕ, ◌<◌, ◌≤◌, List, length, All, slice_index}
 use Rattle.process.specs.Meaning.{Row}
 use Rattle.token_tables.specs.declared.node.Node.{Node}
 use Rattle.token_tables.specs.declared.edge.Edge.{Edge}
+use Rattle.token_tables.specs.Tables.{Drawing}
+use Rattle.token.specs.Rows.{width_of}
 
 abbrev pub Amounts : List Node → Type 0
 Amounts ns = All (λ (x : Node). x.amount ≤ 9999) ns
@@ -28,3 +30,8 @@ pub record Known (ns : List Node) (es : List Edge) : Type 0 where
 -- no cell of a row passes b
 abbrev pub AtMost : ℕ → Row → Type 0
 AtMost b r = (k : ℕ) → slice_index r k ≤ b
+
+-- a row of the width of a drawing, of which no cell passes b
+pub record LowRow (d : Drawing) (b : ℕ) (r : Row) : Type 0 where
+  pub long : length r ≡ width_of d
+  pub low : AtMost b r

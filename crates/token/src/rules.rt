@@ -3,7 +3,7 @@ ghost use Rattle.std.specs.Prelude.{◌≡◌, ℕ, ◌<◌, length};
 ghost use Rattle.token_tables.specs.Tables.{n_of, e_of, node_at};
 ghost use Rattle.token.specs.Rows.{day_of, width_of, safe};
 ghost use Rattle.token.specs.Rules.{choices_of, act_of, Of, wiped, start_row, given, taken, disarmed, armed, passed, ceded, completed, entered, after_enter, after_choose, made};
-ghost use Rattle.token.specs.Known.{AtMost};
+ghost use Rattle.token.specs.Known.{AtMost, LowRow};
 ghost use Rattle.token.specs.Drawn.{drawing_of};
 
 use crate::act::Act;
@@ -93,8 +93,7 @@ impl TokenDrawing {
 
     // One unit passes.
     fn pass(&self, out: &mut [u16])
-        requires long { length out.old ≡ width_of (drawing_of self.now) }
-        requires low { AtMost 10000 out.old }
+        requires { LowRow (drawing_of self.now) 10000 out.old }
         ensures { out.new ≡ passed (drawing_of self.now) out.old }
     {
         pass_clocks(self.node_list(), out);
@@ -106,8 +105,7 @@ impl TokenDrawing {
 
     // Each edge out of the node gains a mark.
     fn give(&self, n: usize, out: &mut [u16])
-        requires long { length out.old ≡ width_of (drawing_of self.now) }
-        requires low { AtMost 20000 out.old }
+        requires { LowRow (drawing_of self.now) 20000 out.old }
         ensures { out.new ≡ given (drawing_of self.now) n out.old }
     {
         let first = 2 * self.node_list().len();
@@ -116,8 +114,7 @@ impl TokenDrawing {
 
     // Each edge into the node loses a mark.
     fn take(&self, n: usize, out: &mut [u16])
-        requires long { length out.old ≡ width_of (drawing_of self.now) }
-        requires low { AtMost 20000 out.old }
+        requires { LowRow (drawing_of self.now) 20000 out.old }
         ensures same { out.new ≡ taken (drawing_of self.now) n out.old }
         ensures low { (most : ℕ) → AtMost most out.old → AtMost most out.new }
     {
@@ -127,8 +124,7 @@ impl TokenDrawing {
 
     // Each boundary of the task gains a mark, and its clock becomes 0.
     fn arm(&self, task: usize, out: &mut [u16])
-        requires long { length out.old ≡ width_of (drawing_of self.now) }
-        requires low { AtMost 20000 out.old }
+        requires { LowRow (drawing_of self.now) 20000 out.old }
         ensures { out.new ≡ armed (drawing_of self.now) task out.old }
     {
         let nodes = self.node_list();
@@ -144,8 +140,7 @@ impl TokenDrawing {
 
     // Each boundary of the task loses its marks, and its clock becomes 0.
     fn disarm(&self, task: usize, out: &mut [u16])
-        requires long { length out.old ≡ width_of (drawing_of self.now) }
-        requires low { AtMost 20000 out.old }
+        requires { LowRow (drawing_of self.now) 20000 out.old }
         ensures same { out.new ≡ disarmed (drawing_of self.now) task out.old }
         ensures low { (most : ℕ) → AtMost most out.old → AtMost most out.new }
     {
@@ -163,8 +158,7 @@ impl TokenDrawing {
     // What goes when the node completes.
     fn cede(&self, n: usize, out: &mut [u16])
         requires node { n < n_of (drawing_of self.now) }
-        requires long { length out.old ≡ width_of (drawing_of self.now) }
-        requires low { AtMost 10000 out.old }
+        requires row { LowRow (drawing_of self.now) 10000 out.old }
         ensures same { out.new ≡ ceded (node_at (drawing_of self.now) n).kind (drawing_of self.now) n out.old }
         ensures low { AtMost 10000 out.new }
     {
@@ -188,8 +182,7 @@ impl TokenDrawing {
     // The node completes: first it takes, then it gives.
     fn complete(&self, n: usize, out: &mut [u16])
         requires node { n < n_of (drawing_of self.now) }
-        requires long { length out.old ≡ width_of (drawing_of self.now) }
-        requires low { AtMost 10000 out.old }
+        requires row { LowRow (drawing_of self.now) 10000 out.old }
         ensures { out.new ≡ completed (drawing_of self.now) n out.old }
     {
         self.cede(n, out);
@@ -208,8 +201,7 @@ impl TokenDrawing {
     // What comes when a mark goes into the node.
     fn receive(&self, n: usize, out: &mut [u16])
         requires node { n < n_of (drawing_of self.now) }
-        requires long { length out.old ≡ width_of (drawing_of self.now) }
-        requires low { AtMost 10000 out.old }
+        requires row { LowRow (drawing_of self.now) 10000 out.old }
         ensures { out.new ≡ entered (node_at (drawing_of self.now) n).kind (drawing_of self.now) n out.old }
     {
         let nodes = self.node_list();
@@ -235,8 +227,7 @@ impl TokenDrawing {
     // A mark goes over the edge into its target.
     fn enter(&self, e: usize, out: &mut [u16])
         requires edge { e < e_of (drawing_of self.now) }
-        requires long { length out.old ≡ width_of (drawing_of self.now) }
-        requires low { AtMost 10000 out.old }
+        requires row { LowRow (drawing_of self.now) 10000 out.old }
         ensures { out.new ≡ after_enter (drawing_of self.now) e out.old }
     {
         let edges = self.edge_list();
@@ -247,8 +238,7 @@ impl TokenDrawing {
     // The gateway chooses the edge.
     fn choose(&self, e: usize, out: &mut [u16])
         requires edge { e < e_of (drawing_of self.now) }
-        requires long { length out.old ≡ width_of (drawing_of self.now) }
-        requires low { AtMost 10000 out.old }
+        requires row { LowRow (drawing_of self.now) 10000 out.old }
         ensures { out.new ≡ after_choose (drawing_of self.now) e out.old }
     {
         self.take(self.edge_list()[e].source as usize, out);
@@ -258,8 +248,7 @@ impl TokenDrawing {
     // Does what the act does.
     pub(crate) fn make(&self, act: Act, out: &mut [u16])
         requires at { Of (drawing_of self.now) act }
-        requires long { length out.old ≡ width_of (drawing_of self.now) }
-        requires low { AtMost 10000 out.old }
+        requires row { LowRow (drawing_of self.now) 10000 out.old }
         ensures { out.new ≡ made (drawing_of self.now) act out.old }
     {
         match act {
