@@ -185,9 +185,9 @@ fn node<'a>(rest: &'a str) -> Result<Command<'a>, Misread<'a>> {
     let amount = cell(fourth, "the node's amount")?;
     Ok(Command::Node {
         node: Node {
-            kind: Kind::numbered(kind),
+            kind: Kind::from(kind),
             host,
-            mode: Mode::numbered(mode),
+            mode: Mode::from(mode),
             amount,
         },
         name,

@@ -1,3 +1,2 @@
 mod Sweeping
-mod Fronts
 mod Knowns

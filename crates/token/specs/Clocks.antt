@@ -1,5 +1,5 @@
 -- How far the clocks of a drawing go.
-use Rattle.std.specs.Prelude.{ℕ, ◌+◌, max, Bool, cond, List, [], ◌∷◌}
+use Rattle.std.specs.Prelude.{ℕ, ◌+◌, max, Bool, cond, List, fold}
 use Rattle.token_tables.specs.declared.node.Node.{Node}
 use Rattle.token_tables.specs.declared.mode.Mode.TheVariants as mode
 use Rattle.token_tables.specs.Kinds.{same_mode}
@@ -18,5 +18,4 @@ day_after x = cond (same_mode x.mode mode.At) (x.amount + 1) 0
 
 -- how far the day clock goes: to the day after the last date, or not at all without dates
 abbrev pub cap_of : List Node → ℕ
-cap_of [] = 0
-cap_of (x ∷ xs) = max (day_after x) (cap_of xs)
+cap_of ns = fold (λ cap x. max cap (day_after x)) 0 ns

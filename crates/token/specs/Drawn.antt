@@ -1,5 +1,6 @@
 -- The drawings of the code: their tables, and what they mean.
-use Rattle.std.specs.Prelude.{cond, List, [], take}
+use Rattle.std.specs.Prelude.{cond, List, []}
+use Rattle.fixed.specs.Items.{items_of}
 use Rattle.process.specs.Meaning.{Meaning}
 use Rattle.process.specs.Outcomes.{gave}
 use Rattle.token_tables.specs.declared.node.Node.{Node}
@@ -10,7 +11,7 @@ use Rattle.token.specs.declared.token_drawing.TokenDrawing.{TokenDrawing}
 use Rattle.token.specs.Rules.{meaning_of}
 
 abbrev pub drawing_of : TokenDrawing → Drawing
-drawing_of p = record { nodes = take p.node_count p.nodes; edges = take p.edge_count p.edges }
+drawing_of p = record { nodes = items_of p.nodes; edges = items_of p.edges }
 
 abbrev pub means : TokenDrawing → Meaning
 means p = meaning_of (drawing_of p)

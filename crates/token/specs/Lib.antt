@@ -1,9 +1,11 @@
 pub mod Clocks
+pub mod Numbered
 pub mod Rows
 pub mod Rules
 pub mod Reading
 pub mod Known
 pub mod Drawn
+pub mod Marked
 pub mod Laws
 pub mod Tame
 pub mod Steps

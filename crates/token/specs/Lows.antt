@@ -1,17 +1,17 @@
 -- A safe row, cell by cell.
-use Rattle.std.specs.Prelude.{◌≡◌, ℕ, suc, ◌+◌, ◌-◌, ◌*◌, ◌<◌, ◌≤◌, Bool, true, false, cond, List, [], ◌∷◌, length, nat_le, slice_index, slice_index_or, refl}
+use Rattle.std.specs.Prelude.{◌≡◌, ℕ, suc, ◌+◌, ◌-◌, ◌*◌, ◌<◌, ◌≤◌, Bool, true, false, cond, List, [], ◌∷◌, length, fold, max, nat_le, slice_index, slice_index_or}
 use Rattle.std.proofs.Common.{subst, inl, inr, arith}
 use Rattle.std.proofs.lemmas.List.{get_or_past}
 use Rattle.std.proofs.lemmas.Bool.{and_parts, ltb-true, leb-true, eqb-true, cases_lt}
 use Rattle.process.specs.Meaning.{Row}
-use Rattle.process.proofs.Every.{decides_all}
 use Rattle.token_tables.specs.declared.node.Node.{Node}
 use Rattle.token_tables.specs.declared.mode.Mode.TheVariants as mode
 use Rattle.token_tables.specs.Kinds.{same_mode}
 use Rattle.token_tables.specs.Tables.{Drawing, n_of, e_of, no_node, no_edge, node_at}
-use Rattle.token.specs.Clocks.{is_after, clock_top, cap_of}
+use Rattle.token.specs.Clocks.{is_after, clock_top, day_after, cap_of}
 use Rattle.token.specs.Rows.{f_of, day_of, width_of, node_fits, nodes_fit, edges_fit, safe}
 use Rattle.token.specs.Known.{Amounts, AtMost}
+use Rattle.token.specs.Numbered.{decides_each}
 
 pub record Fits (d : Drawing) (r : Row) : Type 0 where
   pub some : 0 < n_of d
@@ -25,10 +25,10 @@ pub fits_of : (d : Drawing) (r : Row) → safe d r ≡ true → Fits d r
 fits_of d r h =
     let p = and_parts _ _ h in
     let size = and_parts _ _ p.0 in
-    let q = and_parts (nodes_fit (n_of d) 0 d.nodes r) _ p.1 in
-    let t = and_parts (edges_fit (f_of d) 0 d.edges r) _ q.1 in
-    let nodes : (k : ℕ) → k < n_of d → node_fits (node_at d k) (slice_index r k) (slice_index r (n_of d + k)) ≡ true = (decides_all _ _ (λ i xs. nodes_fit (n_of d) i xs r) (λ i. refl) (λ i x xs. refl) (λ i x. (λ h. h, λ h. h)) no_node d.nodes).0 q.0 in
-    let edges : (k : ℕ) → k < e_of d → nat_le (slice_index r (f_of d + k)) 1 ≡ true = (decides_all _ _ (λ i xs. edges_fit (f_of d) i xs r) (λ i. refl) (λ i x xs. refl) (λ i x. (λ h. h, λ h. h)) no_edge d.edges).0 t.0 in
+    let q = and_parts (nodes_fit d.nodes r) _ p.1 in
+    let t = and_parts (edges_fit (f_of d) d.edges r) _ q.1 in
+    let nodes : (k : ℕ) → k < n_of d → node_fits (node_at d k) (slice_index r k) (slice_index r (n_of d + k)) ≡ true = (decides_each _ (λ i x. (λ h. h, λ h. h)) no_node d.nodes).0 q.0 in
+    let edges : (k : ℕ) → k < e_of d → nat_le (slice_index r (f_of d + k)) 1 ≡ true = (decides_each _ (λ i x. (λ h. h, λ h. h)) no_edge d.edges).0 t.0 in
     record {
       some = ltb-true _ _ size.0;
       long = eqb-true _ _ size.1;
@@ -42,9 +42,12 @@ falls : (b : Bool) (x : ℕ) → cond b x 0 ≤ x
 falls true x = omega arith
 falls false x = omega arith
 
+cap_below : (ns : List Node) (cap : ℕ) → Amounts ns → cap ≤ 10000 → fold (λ most x. max most (day_after x)) cap ns ≤ 10000
+cap_below [] cap h l = l
+cap_below (x ∷ xs) cap h l = cap_below xs (max cap (day_after x)) (λ k d m. h (suc k) d (omega arith)) (omega (arith, falls (same_mode x.mode mode.At) (x.amount + 1), h 0 x (omega arith)))
+
 pub cap_low : (ns : List Node) → Amounts ns → cap_of ns ≤ 10000
-cap_low [] h = omega arith
-cap_low (x ∷ xs) h = omega (arith, falls (same_mode x.mode mode.At) (x.amount + 1), h 0, cap_low xs (λ k. h (suc k)))
+cap_low ns h = cap_below ns 0 h (omega arith)
 
 pub safe_low : (d : Drawing) (r : Row) → Amounts d.nodes → safe d r ≡ true → AtMost 10000 r
 safe_low d r amounts h k =

@@ -1,5 +1,5 @@
 -- Where each choice leads, cell by cell.
-use Rattle.std.specs.Prelude.{ℕ, ◌+◌, ◌-◌, ◌*◌, ◌<◌, Bool, true, false, cond, not, ◌&&◌, ◌||◌, List, [], ◌∷◌, ◌++◌, drop, replicate, Some, None, Option, ◌==◌, nat_lt, slice_index, slice_set}
+use Rattle.std.specs.Prelude.{ℕ, ◌+◌, ◌-◌, ◌*◌, ◌<◌, Bool, true, false, cond, not, ◌&&◌, ◌||◌, List, [], ◌∷◌, ◌++◌, length, drop, replicate, Some, None, Option, ◌==◌, nat_lt, slice_index, slice_set}
 use Rattle.process.specs.Meaning.{Row, Meaning}
 use Rattle.token_tables.specs.declared.node.Node.{Node}
 use Rattle.token_tables.specs.declared.edge.Edge.{Edge}
@@ -12,6 +12,7 @@ use Rattle.token_tables.specs.Tables.{Drawing, n_of, e_of, node_at, edge_at, lea
 use Rattle.token.specs.declared.act.Act.{Act}
 use Rattle.token.specs.declared.act.Act.TheVariants.{Pass, Complete, Enter, Choose}
 use Rattle.token.specs.Clocks.{is_after, cap_of}
+use Rattle.token.specs.Numbered.{all_numbered, any_numbered}
 use Rattle.token.specs.Rows.{f_of, day_of, width_of, safe}
 
 -- ## Choices and acts
@@ -111,29 +112,27 @@ rings (mode.Other number) amount clock day = false
 abbrev pub node_due : Node → ℕ → ℕ → ℕ → Bool
 node_due x mark clock day = nat_lt 0 mark && rings x.mode x.amount clock day
 
--- some node from the i-th on is due
-abbrev pub due_from : ℕ → ℕ → ℕ → List Node → Row → Bool
-due_from n day i [] r = false
-due_from n day i (x ∷ xs) r = node_due x (slice_index r i) (slice_index r (n + i)) day || due_from n day (i + 1) xs r
+-- some node is due
+abbrev pub some_due : ℕ → List Node → Row → Bool
+some_due day ns r = any_numbered (λ i x. node_due x (slice_index r i) (slice_index r (length ns + i)) day) ns
 
 abbrev pub any_due : Drawing → Row → Bool
-any_due d r = due_from (n_of d) (slice_index r (day_of d)) 0 d.nodes r
+any_due d r = some_due (slice_index r (day_of d)) d.nodes r
 
 abbrev pub is_due : Drawing → Row → ℕ → Bool
 is_due d r n = node_due (node_at d n) (slice_index r n) (slice_index r (n_of d + n)) (slice_index r (day_of d))
 
 -- ## What is allowed
 
--- each edge into node m, from the i-th on, has a mark
+-- each edge into node m has a mark; the first edge has its marks in cell f
 abbrev pub edge_ready : ℕ → Edge → ℕ → Bool
 edge_ready m x mark = not (x.target == m) || nat_lt 0 mark
 
-abbrev pub ready_from : ℕ → ℕ → ℕ → List Edge → Row → Bool
-ready_from f m i [] r = true
-ready_from f m i (x ∷ xs) r = edge_ready m x (slice_index r (f + i)) && ready_from f m (i + 1) xs r
+abbrev pub edges_ready : ℕ → ℕ → List Edge → Row → Bool
+edges_ready f m es r = all_numbered (λ i x. edge_ready m x (slice_index r (f + i))) es
 
 abbrev pub ready : Drawing → ℕ → Row → Bool
-ready d m r = ready_from (f_of d) m 0 d.edges r
+ready d m r = edges_ready (f_of d) m d.edges r
 
 -- a kind whose marked nodes may be completed at any time
 abbrev pub is_free : Kind → Bool

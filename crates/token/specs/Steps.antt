@@ -11,8 +11,12 @@ use Rattle.token.specs.Rules.{up, down, clear, sweep, is_boundary_of, start_one,
 use Rattle.token.specs.Tame.{Tame, tame_more, tame_none, tame_zero, tame_up, tame_down, tame_if, tame_both, tame_clear, tame_sweep, at_most_by}
 
 module _ (w : ℕ) where
+  -- a change that raises no cell raises none by more than one
+  pub tame_by_one : (f : Row → Row) → Tame w 0 f → Tame w 1 f
+  tame_by_one f t = tame_more w 0 1 f (omega arith) t
+
   tame_still : Tame w 1 (λ r. r)
-  tame_still = tame_more w 0 1 (λ r. r) (omega arith) (tame_none w)
+  tame_still = tame_by_one (λ r. r) (tame_none w)
 
   pub start_tame : (i : ℕ) (x : Node) → Tame w 1 (start_one i x)
   start_tame i x = tame_if w 1 (λ r. is_begin x.kind) (λ r. up r i) (λ r. r) (tame_up w i) tame_still
@@ -34,6 +38,6 @@ module _ (w : ℕ) where
       tame_if w 1 (λ r. is_boundary_of h x) (λ r. slice_set (up r i) (n + i) 0) (λ r. r)
       (tame_both w 1 0 (λ r. up r i) (λ r. slice_set r (n + i) 0) (tame_up w i) (tame_zero w (n + i))) tame_still
 
--- a sweep that takes marks raises no cell
-pub taken_low : (f m b : ℕ) (es : List Edge) (r s : Row) → s ≡ sweep (take_one f m) 0 es r → AtMost b r → AtMost b s
-taken_low f m b es r s e h = at_most_by _ s (b + 0 * length es) b e (omega arith) ((tame_sweep (length r) 0 (take_one f m) (take_tame (length r) f m) 0 es).low b r refl h)
+-- a sweep of changes that raise no cell raises none
+pub sweep_low : {X : Type 0} (f : ℕ → X → Row → Row) → ((w i : ℕ) (x : X) → Tame w 0 (f i x)) → (xs : List X) (r s : Row) (b : ℕ) → s ≡ sweep f 0 xs r → AtMost b r → AtMost b s
+sweep_low f t xs r s b e h = at_most_by _ s (b + 0 * length xs) b e (omega arith) ((tame_sweep (length r) 0 f (t (length r)) 0 xs).low b r refl h)

@@ -1,7 +1,10 @@
 //! Changes of a row: of single cells, and sweeps over all nodes or all edges.
-ghost use Rattle.std.specs.Prelude.{◌≡◌, ◌+◌, ◌*◌, ◌<◌, ◌≤◌, length, slice_index};
+ghost use Rattle.std.specs.Prelude.{◌≡◌, ℕ, ◌+◌, ◌*◌, ◌<◌, ◌≤◌, length, slice_index};
+ghost use Rattle.process.specs.Meaning.{Row};
 ghost use Rattle.token.specs.Known.{AtMost};
 ghost use Rattle.token.specs.Rules.{up, down, clear, sweep, start_one, pass_one, give_one, take_one, disarm_one, arm_one};
+ghost use Rattle.token.specs.Tame.{Tame};
+ghost use Rattle.token.specs.Steps.{tame_by_one, start_tame, give_tame, take_tame, disarm_tame, arm_tame};
 
 use crate::rows::{is_after, is_boundary_of};
 use token_tables::{Edge, Node};
@@ -32,26 +35,136 @@ pub(crate) fn clear_node(n: usize, i: usize, out: &mut [u16])
     out[n + i] = 0;
 }
 
-fn start_one(i: usize, node: Node, out: &mut [u16])
-    requires long { i < length out.old }
-    requires low { slice_index out.old i < 65535 }
-    ensures { out.new ≡ start_one i node out.old }
+// What each of a list, of nodes or of edges, changes in a row.
+pub(crate) trait Change<T> {
+    // The last cell that the first of them may change; each next one's is the next cell.
+    ghost first: { Self → ℕ };
+
+    // The row that the i-th makes of a row.
+    ghost makes: { Self → ℕ → T → Row → Row };
+
+    fn make(&self, i: usize, item: T, out: &mut [u16])
+        requires long { first self.now + i < length out.old }
+        requires low { AtMost 65534 out.old }
+        ensures { out.new ≡ makes self.now i item out.old };
+
+    // The row keeps its length, and no cell rises by more than one.
+    ghost tame: { (change : Self) (width i : ℕ) (item : T) → Tame width 1 (makes change i item) };
+}
+
+// Each of the list in turn changes the row.
+pub(crate) fn sweep<T: Copy, C: Change<T> + Copy>(items: &[T], change: C, out: &mut [u16])
+    requires long { C.first change + length items.now ≤ length out.old }
+    requires few { length items.now ≤ 128 }
+    requires low { AtMost 20000 out.old }
+    ensures { out.new ≡ sweep (C.makes change) 0 items.now out.old }
 {
-    if node.kind.is_begin() {
-        raise(i, out);
+    for (i, item) in items.iter().enumerate() {
+        change.make(i, *item, out);
     }
 }
 
 // Each start gains a mark.
-pub(crate) fn mark_starts(nodes: &[Node], out: &mut [u16])
-    requires long { 2 * length nodes.now ≤ length out.old }
-    requires few { length nodes.now ≤ 64 }
-    requires low { AtMost 20000 out.old }
-    ensures { out.new ≡ sweep start_one 0 nodes.now out.old }
-{
-    for (i, node) in nodes.iter().enumerate() {
-        start_one(i, *node, out);
+#[derive(Clone, Copy)]
+pub(crate) struct Start;
+
+impl Change<Node> for Start {
+    ghost first = { λ _. 0 };
+
+    ghost makes = { λ _. start_one };
+
+    fn make(&self, i: usize, node: Node, out: &mut [u16]) {
+        if node.kind.is_begin() {
+            raise(i, out);
+        }
     }
+
+    ghost tame = { λ _ width. start_tame width };
+}
+
+// Each edge out of a node gains a mark; the first edge has its marks in cell `first`.
+#[derive(Clone, Copy)]
+pub(crate) struct Give {
+    pub(crate) first: usize,
+    pub(crate) from: usize,
+}
+
+impl Change<Edge> for Give {
+    ghost first = { λ change. change.first };
+
+    ghost makes = { λ change. give_one change.first change.from };
+
+    fn make(&self, i: usize, edge: Edge, out: &mut [u16]) {
+        if edge.source as usize == self.from {
+            raise(self.first + i, out);
+        }
+    }
+
+    ghost tame = { λ change width. give_tame width change.first change.from };
+}
+
+// Each edge into a node loses a mark; the first edge has its marks in cell `first`.
+#[derive(Clone, Copy)]
+pub(crate) struct Take {
+    pub(crate) first: usize,
+    pub(crate) into: usize,
+}
+
+impl Change<Edge> for Take {
+    ghost first = { λ change. change.first };
+
+    ghost makes = { λ change. take_one change.first change.into };
+
+    fn make(&self, i: usize, edge: Edge, out: &mut [u16]) {
+        if edge.target as usize == self.into {
+            lower(self.first + i, out);
+        }
+    }
+
+    ghost tame = { λ change width i edge. tame_by_one width _ (take_tame width change.first change.into i edge) };
+}
+
+// Each boundary of a task loses its marks, and its clock becomes 0; the first node has its clock in cell `first`.
+#[derive(Clone, Copy)]
+pub(crate) struct Disarm {
+    pub(crate) first: usize,
+    pub(crate) task: usize,
+}
+
+impl Change<Node> for Disarm {
+    ghost first = { λ change. change.first };
+
+    ghost makes = { λ change. disarm_one change.first change.task };
+
+    fn make(&self, i: usize, node: Node, out: &mut [u16]) {
+        if is_boundary_of(self.task, node) {
+            clear_node(self.first, i, out);
+        }
+    }
+
+    ghost tame = { λ change width i node. tame_by_one width _ (disarm_tame width change.first change.task i node) };
+}
+
+// Each boundary of a task gains a mark, and its clock becomes 0; the first node has its clock in cell `first`.
+#[derive(Clone, Copy)]
+pub(crate) struct Arm {
+    pub(crate) first: usize,
+    pub(crate) task: usize,
+}
+
+impl Change<Node> for Arm {
+    ghost first = { λ change. change.first };
+
+    ghost makes = { λ change. arm_one change.first change.task };
+
+    fn make(&self, i: usize, node: Node, out: &mut [u16]) {
+        if is_boundary_of(self.task, node) {
+            raise(i, out);
+            out[self.first + i] = 0;
+        }
+    }
+
+    ghost tame = { λ change width. arm_tame width change.first change.task };
 }
 
 fn pass_one(n: usize, i: usize, node: Node, out: &mut [u16])
@@ -64,7 +177,7 @@ fn pass_one(n: usize, i: usize, node: Node, out: &mut [u16])
     }
 }
 
-// The clock of each marked node that waits for its length rises by one.
+// The clock of each marked node that waits for its length rises by one. It stays a plain loop over the nodes by index, as this project wants the passing unit written.
 pub(crate) fn pass_clocks(nodes: &[Node], out: &mut [u16])
     requires long { 2 * length nodes.now ≤ length out.old }
     requires few { length nodes.now ≤ 64 }
@@ -73,88 +186,5 @@ pub(crate) fn pass_clocks(nodes: &[Node], out: &mut [u16])
 {
     for (i, node) in nodes.iter().enumerate() {
         pass_one(nodes.len(), i, *node, out);
-    }
-}
-
-fn give_one(first: usize, from: usize, i: usize, edge: Edge, out: &mut [u16])
-    requires long { first + i < length out.old }
-    requires low { slice_index out.old (first + i) < 65535 }
-    ensures { out.new ≡ give_one first from i edge out.old }
-{
-    if edge.source as usize == from {
-        raise(first + i, out);
-    }
-}
-
-// Each edge out of the node gains a mark.
-pub(crate) fn give_all(edges: &[Edge], first: usize, from: usize, out: &mut [u16])
-    requires long { first + length edges.now ≤ length out.old }
-    requires few { length edges.now ≤ 128 }
-    requires low { AtMost 20000 out.old }
-    ensures { out.new ≡ sweep (give_one first from) 0 edges.now out.old }
-{
-    for (i, edge) in edges.iter().enumerate() {
-        give_one(first, from, i, *edge, out);
-    }
-}
-
-fn take_one(first: usize, into: usize, i: usize, edge: Edge, out: &mut [u16])
-    requires { first + i < length out.old }
-    ensures { out.new ≡ take_one first into i edge out.old }
-{
-    if edge.target as usize == into {
-        lower(first + i, out);
-    }
-}
-
-// Each edge into the node loses a mark.
-pub(crate) fn take_all(edges: &[Edge], first: usize, into: usize, out: &mut [u16])
-    requires { first + length edges.now ≤ length out.old }
-    ensures { out.new ≡ sweep (take_one first into) 0 edges.now out.old }
-{
-    for (i, edge) in edges.iter().enumerate() {
-        take_one(first, into, i, *edge, out);
-    }
-}
-
-fn disarm_one(n: usize, task: usize, i: usize, node: Node, out: &mut [u16])
-    requires { n + i < length out.old }
-    ensures { out.new ≡ disarm_one n task i node out.old }
-{
-    if is_boundary_of(task, node) {
-        clear_node(n, i, out);
-    }
-}
-
-// Each boundary of the task loses its marks, and its clock becomes 0.
-pub(crate) fn disarm_all(nodes: &[Node], task: usize, out: &mut [u16])
-    requires { 2 * length nodes.now ≤ length out.old }
-    ensures { out.new ≡ sweep (disarm_one (length nodes.now) task) 0 nodes.now out.old }
-{
-    for (i, node) in nodes.iter().enumerate() {
-        disarm_one(nodes.len(), task, i, *node, out);
-    }
-}
-
-fn arm_one(n: usize, task: usize, i: usize, node: Node, out: &mut [u16])
-    requires long { n + i < length out.old }
-    requires low { slice_index out.old i < 65535 }
-    ensures { out.new ≡ arm_one n task i node out.old }
-{
-    if is_boundary_of(task, node) {
-        raise(i, out);
-        out[n + i] = 0;
-    }
-}
-
-// Each boundary of the task gains a mark, and its clock becomes 0.
-pub(crate) fn arm_all(nodes: &[Node], task: usize, out: &mut [u16])
-    requires long { 2 * length nodes.now ≤ length out.old }
-    requires few { length nodes.now ≤ 64 }
-    requires low { AtMost 20000 out.old }
-    ensures { out.new ≡ sweep (arm_one (length nodes.now) task) 0 nodes.now out.old }
-{
-    for (i, node) in nodes.iter().enumerate() {
-        arm_one(nodes.len(), task, i, *node, out);
     }
 }

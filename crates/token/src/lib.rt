@@ -2,8 +2,10 @@
 #![tactic(auto)]
 
 mod act;
+mod allowing;
 mod changes;
 mod making;
+mod marking;
 mod place;
 mod playing;
 mod reading;

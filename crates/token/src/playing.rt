@@ -2,6 +2,7 @@
 ghost use Rattle.token.specs.Drawn.{means};
 ghost use Rattle.token.specs.Laws.{lawful_drawing, within_drawing};
 
+use crate::marking::Marking;
 use crate::token_drawing::TokenDrawing;
 use process::{Limits, Process, Refusal};
 
@@ -54,7 +55,8 @@ impl Process for TokenDrawing {
             return Err(Refusal::NoSuchChoice);
         }
         let act = self.act_of(choice);
-        if !self.may(act, row) || !self.row_is_safe(row) {
+        let here = Marking { drawing: self, row };
+        if !here.may(act) || !self.row_is_safe(row) {
             return Err(Refusal::NotAllowed);
         }
         out.copy_from_slice(row);

@@ -4,6 +4,7 @@ ghost use Rattle.token.specs.Reading.{act_at, choice_at, place_at, due_at};
 ghost use Rattle.token.specs.Drawn.{drawing_of};
 
 use crate::act::Act;
+use crate::marking::Marking;
 use crate::place::Place;
 use crate::token_drawing::TokenDrawing;
 
@@ -57,6 +58,8 @@ impl TokenDrawing {
     pub fn is_due(&self, row: &[u16], node: usize) -> bool
         ensures { result ≡ due_at (drawing_of self.now) row.now node }
     {
-        row.len() == self.row_width() && node < self.node_list().len() && self.is_due_at(node, row)
+        row.len() == self.row_width()
+            && node < self.node_list().len()
+            && Marking { drawing: self, row }.is_due(node)
     }
 }

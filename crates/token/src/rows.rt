@@ -2,7 +2,7 @@
 ghost use Rattle.std.specs.Prelude.{◌≡◌, ◌+◌, ◌*◌, ◌≤◌, length};
 ghost use Rattle.token.specs.Clocks.{is_after, clock_top};
 ghost use Rattle.token.specs.Rows.{node_fits, nodes_fit, edges_fit};
-ghost use Rattle.token.specs.Rules.{rings, node_due, due_from, is_boundary_of, edge_ready, ready_from};
+ghost use Rattle.token.specs.Rules.{rings, node_due, some_due, is_boundary_of, edge_ready, edges_ready};
 
 use token_tables::{Edge, Mode, Node};
 
@@ -29,27 +29,20 @@ fn node_fits(node: Node, mark: u16, clock: u16) -> bool
 // Whether no node has more than one mark, and each clock is in range.
 pub(crate) fn nodes_fit(nodes: &[Node], row: &[u16]) -> bool
     requires { 2 * length nodes.now ≤ length row.now }
-    ensures { result ≡ nodes_fit (length nodes.now) 0 nodes.now row.now }
+    ensures { result ≡ nodes_fit nodes.now row.now }
 {
-    for (i, node) in nodes.iter().enumerate() {
-        if !node_fits(*node, row[i], row[nodes.len() + i]) {
-            return false;
-        }
-    }
-    true
+    nodes
+        .iter()
+        .enumerate()
+        .all(|(i, node)| node_fits(*node, row[i], row[nodes.len() + i]))
 }
 
 // Whether no edge has more than one mark; that of the first edge is in cell `first`.
 pub(crate) fn edges_fit(edges: &[Edge], first: usize, row: &[u16]) -> bool
     requires { first + length edges.now ≤ length row.now }
-    ensures { result ≡ edges_fit first 0 edges.now row.now }
+    ensures { result ≡ edges_fit first edges.now row.now }
 {
-    for i in 0..edges.len() {
-        if row[first + i] > 1 {
-            return false;
-        }
-    }
-    true
+    edges.iter().enumerate().all(|(i, _)| row[first + i] <= 1)
 }
 
 // Whether the timer of the node rings.
@@ -72,14 +65,9 @@ pub(crate) fn node_is_due(node: Node, mark: u16, clock: u16, day: u16) -> bool
 // Whether some node is due.
 pub(crate) fn any_is_due(nodes: &[Node], day: u16, row: &[u16]) -> bool
     requires { 2 * length nodes.now ≤ length row.now }
-    ensures { result ≡ due_from (length nodes.now) day 0 nodes.now row.now }
+    ensures { result ≡ some_due day nodes.now row.now }
 {
-    for (i, node) in nodes.iter().enumerate() {
-        if node_is_due(*node, row[i], row[nodes.len() + i], day) {
-            return true;
-        }
-    }
-    false
+    nodes.iter().enumerate().any(|(i, node)| node_is_due(*node, row[i], row[nodes.len() + i], day))
 }
 
 // Whether the node is a boundary of this task.
@@ -98,12 +86,10 @@ fn edge_is_ready(into: usize, edge: Edge, mark: u16) -> bool
 // Whether each edge into the node has a mark.
 pub(crate) fn is_ready(edges: &[Edge], first: usize, into: usize, row: &[u16]) -> bool
     requires { first + length edges.now ≤ length row.now }
-    ensures { result ≡ ready_from first into 0 edges.now row.now }
+    ensures { result ≡ edges_ready first into edges.now row.now }
 {
-    for (i, edge) in edges.iter().enumerate() {
-        if !edge_is_ready(into, *edge, row[first + i]) {
-            return false;
-        }
-    }
-    true
+    edges
+        .iter()
+        .enumerate()
+        .all(|(i, edge)| edge_is_ready(into, *edge, row[first + i]))
 }

@@ -1,44 +1,30 @@
-//! What each act asks for, and what it does.
-ghost use Rattle.std.specs.Prelude.{◌≡◌, ◌<◌, length};
+//! What each act does.
+ghost use Rattle.std.specs.Prelude.{◌≡◌, ℕ, ◌<◌, length};
 ghost use Rattle.token_tables.specs.Tables.{n_of, e_of, node_at};
 ghost use Rattle.token.specs.Rows.{day_of, width_of, safe};
-ghost use Rattle.token.specs.Rules.{choices_of, act_of, Of, any_due, is_due, is_enterable, may_complete, may_enter, may_choose, may_free, may_urgent, may, wiped, start_row, passed, ceded, completed, entered, after_enter, after_choose, made};
-ghost use Rattle.token.specs.Known.{AtMost};
+ghost use Rattle.token.specs.Rules.{choices_of, act_of, Of, wiped, start_row, given, taken, disarmed, armed, passed, ceded, completed, entered, after_enter, after_choose, made};
+ghost use Rattle.token.specs.Known.{AtMost, LowRow};
 ghost use Rattle.token.specs.Drawn.{drawing_of};
 
 use crate::act::Act;
 use crate::changes::{
-    arm_all, clear_node, disarm_all, give_all, lower, mark_starts, pass_clocks, raise, take_all,
+    Arm, Disarm, Give, Start, Take, clear_node, lower, pass_clocks, raise, sweep,
 };
-use crate::rows::{any_is_due, edges_fit, is_ready, node_is_due, nodes_fit};
+use crate::rows::{edges_fit, nodes_fit};
 use crate::token_drawing::TokenDrawing;
-use token_tables::{Edge, Kind, Node, count_leaving};
-
-// Whether a mark may go into a node of this kind, with so many edges out of it.
-fn is_enterable(kind: Kind, leaving: usize) -> bool
-    ensures { result ≡ is_enterable kind leaving }
-{
-    match kind {
-        Kind::Task | Kind::Wait | Kind::End | Kind::Terminate => true,
-        Kind::Exclusive => leaving == 1,
-        _ => false,
-    }
-}
+use token_tables::{Edge, Kind, Node};
 
 impl TokenDrawing {
-    // The nodes that are used, of the 64 that there is room for.
     pub(crate) fn node_list(&self) -> &[Node]
         ensures { result.now ≡ (drawing_of self.now).nodes }
     {
-        let all: &[Node] = &self.nodes;
-        &all[0..self.node_count]
+        self.nodes.as_slice()
     }
 
     pub(crate) fn edge_list(&self) -> &[Edge]
         ensures { result.now ≡ (drawing_of self.now).edges }
     {
-        let all: &[Edge] = &self.edges;
-        &all[0..self.edge_count]
+        self.edges.as_slice()
     }
 
     // The cell of the day clock, which is the last.
@@ -96,115 +82,18 @@ impl TokenDrawing {
             && row[day] <= self.cap
     }
 
-    // Whether some node is due.
-    fn row_is_due(&self, row: &[u16]) -> bool
-        requires { length row.now ≡ width_of (drawing_of self.now) }
-        ensures { result ≡ any_due (drawing_of self.now) row.now }
-    {
-        any_is_due(self.node_list(), row[self.day_cell()], row)
-    }
-
-    // Whether this node is due.
-    pub(crate) fn is_due_at(&self, n: usize, row: &[u16]) -> bool
-        requires node { n < n_of (drawing_of self.now) }
-        requires long { length row.now ≡ width_of (drawing_of self.now) }
-        ensures { result ≡ is_due (drawing_of self.now) row.now n }
-    {
-        let nodes = self.node_list();
-        node_is_due(nodes[n], row[n], row[nodes.len() + n], row[self.day_cell()])
-    }
-
-    fn may_complete(&self, n: usize, row: &[u16]) -> bool
-        requires node { n < n_of (drawing_of self.now) }
-        requires long { length row.now ≡ width_of (drawing_of self.now) }
-        ensures { result ≡ may_complete (drawing_of self.now) row.now n }
-    {
-        let nodes = self.node_list();
-        match nodes[n].kind {
-            Kind::Start | Kind::Task => row[n] > 0,
-            Kind::Parallel => is_ready(self.edge_list(), 2 * nodes.len(), n, row),
-            _ => false,
-        }
-    }
-
-    fn may_enter(&self, e: usize, row: &[u16]) -> bool
-        requires edge { e < e_of (drawing_of self.now) }
-        requires long { length row.now ≡ width_of (drawing_of self.now) }
-        ensures { result ≡ may_enter (drawing_of self.now) row.now e }
-    {
-        let nodes = self.node_list();
-        let edges = self.edge_list();
-        let target = edges[e].target as usize;
-        row[2 * nodes.len() + e] > 0
-            && is_enterable(nodes[target].kind, count_leaving(edges, target))
-    }
-
-    fn may_choose(&self, e: usize, row: &[u16]) -> bool
-        requires edge { e < e_of (drawing_of self.now) }
-        requires long { length row.now ≡ width_of (drawing_of self.now) }
-        ensures { result ≡ may_choose (drawing_of self.now) row.now e }
-    {
-        let nodes = self.node_list();
-        let edges = self.edge_list();
-        let source = edges[e].source as usize;
-        nodes[source].kind == Kind::Exclusive
-            && count_leaving(edges, source) > 1
-            && is_ready(edges, 2 * nodes.len(), source, row)
-    }
-
-    // Whether the act is allowed while no node is due.
-    fn may_free(&self, act: Act, row: &[u16]) -> bool
-        requires at { Of (drawing_of self.now) act }
-        requires long { length row.now ≡ width_of (drawing_of self.now) }
-        ensures { result ≡ may_free (drawing_of self.now) row.now act }
-    {
-        match act {
-            Act::Pass => true,
-            Act::Complete { node } => self.may_complete(node, row),
-            Act::Enter { edge } => self.may_enter(edge, row),
-            Act::Choose { edge } => self.may_choose(edge, row),
-        }
-    }
-
-    // Whether the act is allowed while some node is due.
-    fn may_urgent(&self, act: Act, row: &[u16]) -> bool
-        requires at { Of (drawing_of self.now) act }
-        requires long { length row.now ≡ width_of (drawing_of self.now) }
-        ensures { result ≡ may_urgent (drawing_of self.now) row.now act }
-    {
-        match act {
-            Act::Complete { node } => self.is_due_at(node, row),
-            Act::Pass | Act::Enter { .. } | Act::Choose { .. } => false,
-        }
-    }
-
-    // Whether the act is allowed. Most acts are allowed neither way, and then nobody asks what is due.
-    pub(crate) fn may(&self, act: Act, row: &[u16]) -> bool
-        requires at { Of (drawing_of self.now) act }
-        requires long { length row.now ≡ width_of (drawing_of self.now) }
-        ensures { result ≡ may (drawing_of self.now) row.now act }
-    {
-        let urgent = self.may_urgent(act, row);
-        let free = self.may_free(act, row);
-        if urgent == free {
-            return free;
-        }
-        if self.row_is_due(row) { urgent } else { free }
-    }
-
     // Writes the start row.
     pub(crate) fn begin(&self, out: &mut [u16])
         requires { length out.old ≡ width_of (drawing_of self.now) }
         ensures { out.new ≡ start_row (drawing_of self.now) }
     {
         out.fill(0);
-        mark_starts(self.node_list(), out);
+        sweep(self.node_list(), Start, out);
     }
 
     // One unit passes.
     fn pass(&self, out: &mut [u16])
-        requires long { length out.old ≡ width_of (drawing_of self.now) }
-        requires low { AtMost 10000 out.old }
+        requires { LowRow (drawing_of self.now) 10000 out.old }
         ensures { out.new ≡ passed (drawing_of self.now) out.old }
     {
         pass_clocks(self.node_list(), out);
@@ -214,49 +103,90 @@ impl TokenDrawing {
         }
     }
 
+    // Each edge out of the node gains a mark.
+    fn give(&self, n: usize, out: &mut [u16])
+        requires { LowRow (drawing_of self.now) 20000 out.old }
+        ensures { out.new ≡ given (drawing_of self.now) n out.old }
+    {
+        let first = 2 * self.node_list().len();
+        sweep(self.edge_list(), Give { first, from: n }, out);
+    }
+
+    // Each edge into the node loses a mark.
+    fn take(&self, n: usize, out: &mut [u16])
+        requires { LowRow (drawing_of self.now) 20000 out.old }
+        ensures same { out.new ≡ taken (drawing_of self.now) n out.old }
+        ensures low { (most : ℕ) → AtMost most out.old → AtMost most out.new }
+    {
+        let first = 2 * self.node_list().len();
+        sweep(self.edge_list(), Take { first, into: n }, out);
+    }
+
+    // Each boundary of the task gains a mark, and its clock becomes 0.
+    fn arm(&self, task: usize, out: &mut [u16])
+        requires { LowRow (drawing_of self.now) 20000 out.old }
+        ensures { out.new ≡ armed (drawing_of self.now) task out.old }
+    {
+        let nodes = self.node_list();
+        sweep(
+            nodes,
+            Arm {
+                first: nodes.len(),
+                task,
+            },
+            out,
+        );
+    }
+
+    // Each boundary of the task loses its marks, and its clock becomes 0.
+    fn disarm(&self, task: usize, out: &mut [u16])
+        requires { LowRow (drawing_of self.now) 20000 out.old }
+        ensures same { out.new ≡ disarmed (drawing_of self.now) task out.old }
+        ensures low { (most : ℕ) → AtMost most out.old → AtMost most out.new }
+    {
+        let nodes = self.node_list();
+        sweep(
+            nodes,
+            Disarm {
+                first: nodes.len(),
+                task,
+            },
+            out,
+        );
+    }
+
     // What goes when the node completes.
-    fn cede_by_kind(&self, n: usize, out: &mut [u16])
+    fn cede(&self, n: usize, out: &mut [u16])
         requires node { n < n_of (drawing_of self.now) }
-        requires long { length out.old ≡ width_of (drawing_of self.now) }
-        ensures { out.new ≡ ceded (node_at (drawing_of self.now) n).kind (drawing_of self.now) n out.old }
+        requires row { LowRow (drawing_of self.now) 10000 out.old }
+        ensures same { out.new ≡ ceded (node_at (drawing_of self.now) n).kind (drawing_of self.now) n out.old }
+        ensures low { AtMost 10000 out.new }
     {
         let nodes = self.node_list();
         match nodes[n].kind {
             Kind::Task => {
                 clear_node(nodes.len(), n, out);
-                disarm_all(nodes, n, out);
+                self.disarm(n, out);
             }
-            Kind::Parallel => take_all(self.edge_list(), 2 * nodes.len(), n, out),
+            Kind::Parallel => self.take(n, out),
             Kind::Stopping => {
                 let host = nodes[n].host as usize;
                 clear_node(nodes.len(), n, out);
                 out[host] = 0;
-                disarm_all(nodes, host, out);
+                self.disarm(host, out);
             }
             _ => clear_node(nodes.len(), n, out),
         }
     }
 
-    // The same, with the bound on the cells that it keeps.
-    fn cede(&self, n: usize, out: &mut [u16])
-        requires node { n < n_of (drawing_of self.now) }
-        requires long { length out.old ≡ width_of (drawing_of self.now) }
-        requires low { AtMost 10000 out.old }
-        ensures same { out.new ≡ ceded (node_at (drawing_of self.now) n).kind (drawing_of self.now) n out.old }
-        ensures low { AtMost 10000 out.new }
-    {
-        self.cede_by_kind(n, out);
-    }
-
     // The node completes: first it takes, then it gives.
     fn complete(&self, n: usize, out: &mut [u16])
         requires node { n < n_of (drawing_of self.now) }
-        requires long { length out.old ≡ width_of (drawing_of self.now) }
-        requires low { AtMost 10000 out.old }
+        requires row { LowRow (drawing_of self.now) 10000 out.old }
         ensures { out.new ≡ completed (drawing_of self.now) n out.old }
     {
         self.cede(n, out);
-        give_all(self.edge_list(), 2 * self.node_list().len(), n, out);
+        self.give(n, out);
     }
 
     // All marks and clocks of nodes, and all marks of edges, become 0.
@@ -271,17 +201,16 @@ impl TokenDrawing {
     // What comes when a mark goes into the node.
     fn receive(&self, n: usize, out: &mut [u16])
         requires node { n < n_of (drawing_of self.now) }
-        requires long { length out.old ≡ width_of (drawing_of self.now) }
-        requires low { AtMost 10000 out.old }
+        requires row { LowRow (drawing_of self.now) 10000 out.old }
         ensures { out.new ≡ entered (node_at (drawing_of self.now) n).kind (drawing_of self.now) n out.old }
     {
         let nodes = self.node_list();
         match nodes[n].kind {
             Kind::Task => {
                 raise(n, out);
-                arm_all(nodes, n, out);
+                self.arm(n, out);
             }
-            Kind::Exclusive => give_all(self.edge_list(), 2 * nodes.len(), n, out),
+            Kind::Exclusive => self.give(n, out),
             Kind::Wait => {
                 raise(n, out);
                 out[nodes.len() + n] = 0;
@@ -298,8 +227,7 @@ impl TokenDrawing {
     // A mark goes over the edge into its target.
     fn enter(&self, e: usize, out: &mut [u16])
         requires edge { e < e_of (drawing_of self.now) }
-        requires long { length out.old ≡ width_of (drawing_of self.now) }
-        requires low { AtMost 10000 out.old }
+        requires row { LowRow (drawing_of self.now) 10000 out.old }
         ensures { out.new ≡ after_enter (drawing_of self.now) e out.old }
     {
         let edges = self.edge_list();
@@ -310,21 +238,17 @@ impl TokenDrawing {
     // The gateway chooses the edge.
     fn choose(&self, e: usize, out: &mut [u16])
         requires edge { e < e_of (drawing_of self.now) }
-        requires long { length out.old ≡ width_of (drawing_of self.now) }
-        requires low { AtMost 10000 out.old }
+        requires row { LowRow (drawing_of self.now) 10000 out.old }
         ensures { out.new ≡ after_choose (drawing_of self.now) e out.old }
     {
-        let edges = self.edge_list();
-        let first = 2 * self.node_list().len();
-        take_all(edges, first, edges[e].source as usize, out);
-        raise(first + e, out);
+        self.take(self.edge_list()[e].source as usize, out);
+        raise(2 * self.node_list().len() + e, out);
     }
 
     // Does what the act does.
     pub(crate) fn make(&self, act: Act, out: &mut [u16])
         requires at { Of (drawing_of self.now) act }
-        requires long { length out.old ≡ width_of (drawing_of self.now) }
-        requires low { AtMost 10000 out.old }
+        requires row { LowRow (drawing_of self.now) 10000 out.old }
         ensures { out.new ≡ made (drawing_of self.now) act out.old }
     {
         match act {

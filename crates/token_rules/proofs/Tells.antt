@@ -1,9 +1,8 @@
 -- What the tests of a row tell of its state.
-use Rattle.std.proofs.Common.{◌≡◌, ℕ, ◌+◌, ◌<◌, ◌≤◌, Bool, true, false, not, ◌&&◌, ◌||◌, leb, ◌⊎◌, length, get_or, Decides, refl, inl, inr, arith}
+use Rattle.std.proofs.Common.{◌≡◌, ℕ, ◌+◌, ◌<◌, ◌≤◌, Bool, true, false, not, ◌||◌, leb, ◌⊎◌, length, get_or, Decides, refl, inl, inr, arith}
 use Rattle.std.proofs.lemmas.Bool.{cases_Bool, le-leb, leb-true, not-true, both_ways, cond-true, cond-false}
 use Rattle.std.proofs.lemmas.Bool.Decides.{Decides-and, Decides-or, Decides-not, Decides-ltb, Decides-eqb, Decides-like, not_from_Decides}
 use Rattle.process.specs.Meaning.{Row}
-use Rattle.process.proofs.Every.{decides_all}
 use Rattle.token_tables.specs.declared.node.Node.{Node}
 use Rattle.token_tables.specs.declared.kind.Kind.{Kind}
 use Rattle.token_tables.specs.declared.kind.Kind.TheVariants as kind
@@ -14,14 +13,11 @@ use Rattle.token_tables.proofs.Codes.{decides_kind, decides_mode}
 use Rattle.token.specs.declared.act.Act.{Act}
 use Rattle.token.specs.declared.act.Act.TheVariants.{Pass, Complete, Enter, Choose}
 use Rattle.token.specs.Clocks.{is_after, clock_top, cap_of}
-use Rattle.token.specs.Rows.{f_of, day_of, width_of, nodes_fit, edges_fit, safe}
-use Rattle.token.specs.Rules.{Of, rings, node_due, due_from, any_due, is_due, ready_from, ready, is_free, may_complete, is_enterable, may}
+use Rattle.token.specs.Rows.{f_of, day_of, width_of, safe}
+use Rattle.token.specs.Rules.{Of, rings, node_due, any_due, is_due, ready, is_free, may_complete, is_enterable, may}
+use Rattle.token.specs.Numbered.{decides_each, decides_none}
 use Rattle.token_rules.specs.Relation.{State, Safe, Rings, Due, Calm, Gathered, Ready, due, begun, gathered}
 use Rattle.token_rules.specs.Showing.{state_of}
-
-not_or : (a b : Bool) → not (a || b) ≡ (not a && not b)
-not_or true b = refl
-not_or false b = refl
 
 decides_leb : (a b : ℕ) → Decides (leb a b) (a ≤ b)
 decides_leb a b = (leb-true a b, le-leb a b)
@@ -94,13 +90,11 @@ module _ (d : Drawing) (r : Row) where
 
   decides_calm : Decides (not (any_due d r)) (Calm d S)
   decides_calm =
-      decides_all _ _ (λ i xs. not (due_from (n_of d) (get_or r (day_of d) 0) i xs r)) (λ i. refl) (λ i x xs. rw not_or)
-      (λ i x. Decides-not _ (decides_node_due x (get_or r i 0) (get_or r (n_of d + i) 0) (get_or r (day_of d) 0))) no_node d.nodes
+      decides_none _ (λ i x. Decides-not _ (decides_node_due x (get_or r i 0) (get_or r (n_of d + i) 0) (get_or r (day_of d) 0))) no_node d.nodes
 
   decides_gathered : (n : ℕ) → Decides (ready d n r) (Gathered d S n)
   decides_gathered n =
-      decides_all _ _ (λ i xs. ready_from (f_of d) n i xs r) (λ i. refl) (λ i x xs. refl)
-      (λ i x. decides_if _ _ (Decides-eqb x.target n) (Decides-ltb 0 (get_or r (f_of d + i) 0))) no_edge d.edges
+      decides_each _ (λ i x. decides_if _ _ (Decides-eqb x.target n) (Decides-ltb 0 (get_or r (f_of d + i) 0))) no_edge d.edges
 
   pub decides_safe : Decides (safe d r) (((0 < n_of d) × (length r ≡ width_of d)) × Safe d S)
   decides_safe =
@@ -119,9 +113,9 @@ module _ (d : Drawing) (r : Row) where
       })
       (λ h. (λ n l. (h.nodes n l, (h.lawful.waiting n l, h.lawful.still n l)), (h.edges, h.lawful.day)))
       (Decides-and _ _
-      (decides_all _ _ (λ i xs. nodes_fit (n_of d) i xs r) (λ i. refl) (λ i x xs. refl) (λ i x. Decides-and _ _ (decides_leb (get_or r i 0) 1) (decides_range x (get_or r (n_of d + i) 0))) no_node d.nodes)
+      (decides_each _ (λ i x. Decides-and _ _ (decides_leb (get_or r i 0) 1) (decides_range x (get_or r (n_of d + i) 0))) no_node d.nodes)
       (Decides-and _ _
-      (decides_all _ _ (λ i xs. edges_fit (f_of d) i xs r) (λ i. refl) (λ i x xs. refl) (λ i x. decides_leb (get_or r (f_of d + i) 0) 1) no_edge d.edges)
+      (decides_each _ (λ i x. decides_leb (get_or r (f_of d + i) 0) 1) no_edge d.edges)
       (decides_leb (get_or r (day_of d) 0) (cap_of d.nodes)))))
 
   -- node n may be completed, whether some node is due or not

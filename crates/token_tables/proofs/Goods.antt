@@ -1,6 +1,8 @@
 -- Tables have no fault just if they are good.
-use Rattle.std.proofs.Common.{◌≡◌, ℕ, zero, suc, ◌<◌, ◌≤◌, Bool, true, false, cond, leb, List, [], ◌∷◌, length, get_or, Decides, refl, inl, inr, arith}
-use Rattle.std.proofs.lemmas.Bool.{or_cases, or_left, or_right, leb-true, le-leb, both_ways}
+use Rattle.std.proofs.Common.{◌≡◌, ℕ, ◌<◌, ◌≤◌, Bool, true, false, cond, leb, List, length, get_or, Decides, refl, ap, ◌∙◌}
+use Rattle.std.proofs.lemmas.List.{get_or_default}
+use Rattle.std.proofs.lemmas.List.Folds.{Any-from_list_any, list_any_at}
+use Rattle.std.proofs.lemmas.Bool.{leb-true, le-leb, both_ways}
 use Rattle.std.proofs.lemmas.Bool.Decides.{Decides-and, Decides-ltb, Decides-eqb, Decides-like}
 use Rattle.process.specs.Outcomes.{gave}
 use Rattle.process.proofs.Every.{decides_then, decides_test, decides_only, decides_faultless}
@@ -25,20 +27,10 @@ decides_cond true x y p q = (λ h. (λ e. p.0 h, λ e. absurd (both_ways true e 
 decides_cond false x y p q = (λ h. (λ e. absurd (both_ways false refl e), λ e. q.0 h), λ h. q.1 (h.1 refl))
 
 decides_start : (ns : List Node) → Decides (has_start ns) ((n : ℕ) × (n < length ns) × (is_begin (get_or ns n no_node).kind ≡ true))
-decides_start ns = (some ns, λ h. has ns h.0 h.1 h.2)
-  where
-    some : (xs : List Node) → has_start xs ≡ true → (n : ℕ) × (n < length xs) × (is_begin (get_or xs n no_node).kind ≡ true)
-    some [] h = absurd (both_ways false refl h)
-    some (x ∷ xs) h =
-        elim (or_cases (is_begin x.kind) (has_start xs) h) [
-          | inl p ↦ (0, omega arith, p)
-          | inr p ↦ let q = some xs p in (suc q.0, omega (arith, q.1), q.2)
-        ]
-
-    has : (xs : List Node) (n : ℕ) → n < length xs → is_begin (get_or xs n no_node).kind ≡ true → has_start xs ≡ true
-    has [] n l h = absurd (omega arith)
-    has (x ∷ xs) zero l h = or_left _ _ h
-    has (x ∷ xs) (suc n) l h = or_right (is_begin x.kind) _ (has xs n (omega arith) h)
+decides_start ns = (
+  λ h. let some = Any-from_list_any (λ (x : Node). is_begin x.kind) ns h in (some.0, some.2, ap (λ (x : Node). is_begin x.kind) (get_or_default ns some.0 no_node some.1 some.2 ∙ some.3) ∙ some.4),
+  λ h. list_any_at (λ (x : Node). is_begin x.kind) ns h.0 no_node h.1 h.2,
+)
 
 module _ (ns : List Node) (es : List Edge) where
   -- what is asked of each node by itself, of each edge, and of each node by its edges

@@ -1,3 +1,3 @@
-mod Counts
+mod Tried
 pub mod Codes
 pub mod Goods

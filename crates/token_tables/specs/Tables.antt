@@ -1,5 +1,6 @@
 -- The tables of a drawing, and what is read off them.
-use Rattle.std.specs.Prelude.{ℕ, ◌+◌, Bool, false, cond, ◌||◌, List, [], ◌∷◌, length, nat_eq, slice_index_or}
+use Rattle.std.specs.Prelude.{ℕ, Bool, List, length, nat_eq, count_by, slice_index_or}
+use Rattle.std.specs.List.{list_any}
 use Rattle.token_tables.specs.declared.node.Node.{Node}
 use Rattle.token_tables.specs.declared.edge.Edge.{Edge}
 use Rattle.token_tables.specs.declared.kind.Kind.{Kind}
@@ -33,22 +34,16 @@ node_at d n = slice_index_or d.nodes n no_node
 abbrev pub edge_at : Drawing → ℕ → Edge
 edge_at d e = slice_index_or d.edges e no_edge
 
--- how many of them are so
-abbrev pub how_many : {X : Type 0} → (X → Bool) → List X → ℕ
-how_many p [] = 0
-how_many p (x ∷ xs) = cond (p x) 1 0 + how_many p xs
-
 -- how many edges go into node n, and how many go out of it
 abbrev pub entering : ℕ → List Edge → ℕ
-entering n es = how_many (λ (e : Edge). nat_eq e.target n) es
+entering n es = count_by (λ (e : Edge). nat_eq e.target n) es
 
 abbrev pub leaving : ℕ → List Edge → ℕ
-leaving n es = how_many (λ (e : Edge). nat_eq e.source n) es
+leaving n es = count_by (λ (e : Edge). nat_eq e.source n) es
 
 -- some node is a start
 abbrev pub has_start : List Node → Bool
-has_start [] = false
-has_start (x ∷ xs) = is_begin x.kind || has_start xs
+has_start ns = list_any (λ (x : Node). is_begin x.kind) ns
 
 -- ## Words for what stands in the tables
 

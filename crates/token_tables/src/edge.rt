@@ -29,24 +29,12 @@ impl Edge {
 pub fn count_entering(edges: &[Edge], node: usize) -> usize
     ensures { result ≡ entering node edges.now }
 {
-    let mut count = 0;
-    for edge in edges {
-        if edge.enters(node) {
-            count += 1;
-        }
-    }
-    count
+    edges.iter().filter(|edge| edge.enters(node)).count()
 }
 
 /// How many edges go out of this node.
 pub fn count_leaving(edges: &[Edge], node: usize) -> usize
     ensures { result ≡ leaving node edges.now }
 {
-    let mut count = 0;
-    for edge in edges {
-        if edge.leaves(node) {
-            count += 1;
-        }
-    }
-    count
+    edges.iter().filter(|edge| edge.leaves(node)).count()
 }

@@ -102,42 +102,37 @@ fn examine_count(edges: &[Edge], index: usize, node: Node) -> Result<(), Drawing
 fn examine_nodes(nodes: &[Node]) -> Result<(), DrawingFault>
     ensures { told result ≡ first_fault (node_fault nodes.now) 0 nodes.now }
 {
-    for (index, node) in nodes.iter().enumerate() {
-        examine_node(nodes, index, *node)?;
-    }
-    Ok(())
+    nodes
+        .iter()
+        .enumerate()
+        .try_for_each(|(index, node)| examine_node(nodes, index, *node))
 }
 
 // The first fault of an edge.
 fn examine_edges(nodes: usize, edges: &[Edge]) -> Result<(), DrawingFault>
     ensures { told result ≡ first_fault (edge_fault nodes) 0 edges.now }
 {
-    for (index, edge) in edges.iter().enumerate() {
-        examine_edge(nodes, index, *edge)?;
-    }
-    Ok(())
+    edges
+        .iter()
+        .enumerate()
+        .try_for_each(|(index, edge)| examine_edge(nodes, index, *edge))
 }
 
 // The first fault of a node by its edges.
 fn examine_counts(nodes: &[Node], edges: &[Edge]) -> Result<(), DrawingFault>
     ensures { told result ≡ first_fault (count_fault edges.now) 0 nodes.now }
 {
-    for (index, node) in nodes.iter().enumerate() {
-        examine_count(edges, index, *node)?;
-    }
-    Ok(())
+    nodes
+        .iter()
+        .enumerate()
+        .try_for_each(|(index, node)| examine_count(edges, index, *node))
 }
 
 // Whether some node is a start.
 fn has_start(nodes: &[Node]) -> bool
     ensures { result ≡ has_start nodes.now }
 {
-    for node in nodes {
-        if node.kind.is_begin() {
-            return true;
-        }
-    }
-    false
+    nodes.iter().any(|node| node.kind.is_begin())
 }
 
 // The first fault: the size; then each node by itself; then each edge; then each node by its edges; then the starts.

@@ -29,11 +29,11 @@ pub enum Kind {
     Other(u16),
 }
 
-impl Kind {
+impl From<u16> for Kind {
+    ghost from_gives = { λ number kind. kind ≡ kind_numbered number };
+
     /// The kind of this number.
-    pub fn numbered(number: u16) -> Kind
-        ensures { result ≡ kind_numbered number }
-    {
+    fn from(number: u16) -> Kind {
         match number {
             0 => Kind::Start,
             1 => Kind::TimedStart,
@@ -48,7 +48,9 @@ impl Kind {
             _ => Kind::Other(number),
         }
     }
+}
 
+impl Kind {
     /// Whether nodes of this kind are marked at the start.
     pub fn is_begin(self) -> bool
         ensures { result ≡ is_begin self }

@@ -15,11 +15,11 @@ pub enum Mode {
     Other(u16),
 }
 
-impl Mode {
+impl From<u16> for Mode {
+    ghost from_gives = { λ number mode. mode ≡ mode_numbered number };
+
     /// The mode of this number.
-    pub fn numbered(number: u16) -> Mode
-        ensures { result ≡ mode_numbered number }
-    {
+    fn from(number: u16) -> Mode {
         match number {
             0 => Mode::Untimed,
             1 => Mode::At,

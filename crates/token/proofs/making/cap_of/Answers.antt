@@ -1,14 +1,10 @@
-use Rattle.std.proofs.Common.{◌≡◌, ℕ, ◌+◌, ◌<◌, max, List, length, get_or, drop, arith}
-use Rattle.process.proofs.Scans.{one_more, all_done}
-use Rattle.token_tables.specs.declared.node.Node.{Node}
-use Rattle.token.specs.Clocks.{day_after, cap_of}
+use Rattle.std.proofs.Common.{ap, ◌∙◌, rules, unwrap_or}
+use Rattle.std.proofs.lemmas.Iterator.{YieldsList-from_slice, YieldsList-from_map}
+use Rattle.std.proofs.lemmas.Iterator.Consumers.{reduce_from_yields_List}
+use Rattle.std.proofs.lemmas.List.Folds.{max_of_map}
+use Rattle.token.specs.Clocks.{day_after}
 use Rattle.token.proofs.making.cap_of.Goals as goal
 
-more : (ns : List Node) (i cap next : ℕ) (x : Node) → i < length ns → next ≡ max (day_after (get_or ns i x)) cap → max cap (cap_of (drop i ns)) ≡ cap_of ns → max next (cap_of (drop (i + 1) ns)) ≡ cap_of ns
-more ns i cap next x h e k = omega (arith, one_more (λ xs. max cap (cap_of xs)) ns i k x h)
-
-pub loop-node-preserved : goal.loop-node-preserved
-loop-node-preserved c = more _ _ _ _ _ c.loop-node-test.true (rw c.day_after.ensures at c.max-cap.ensures) c.loop-node.invariant
-
 pub returns : goal.returns
-returns c = omega (arith, all_done (λ xs. max c.loop-node.cap (cap_of xs)) _ _ c.loop-node.invariant c.loop-node-test.false)
+returns c =
+    c.unwrap_or.ensures ∙ ap (λ o. unwrap_or o 0) (reduce_from_yields_List _ c.map.result _ c.max.ensures.ran (YieldsList-from_map _ day_after (YieldsList-from_slice c.args.nodes.now (cc)) (cc) (λ x r q k. search rules))) ∙ max_of_map day_after c.args.nodes.now

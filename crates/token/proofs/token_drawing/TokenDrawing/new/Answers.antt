@@ -5,6 +5,4 @@ use Rattle.token.proofs.Knowns.{known}
 use Rattle.token.proofs.token_drawing.TokenDrawing.new.Goals as goal
 
 pub draw-requires : goal.draw-requires
-draw-requires c =
-    let k = known _ _ (good c.args.nodes.now c.args.edges.now (sym (ap gave c.in-Ok.ensures.answer))) in
-    record { few = k.few; thin = k.thin; amounts = k.amounts; hosts = k.hosts; sources = k.sources; targets = k.targets }
+draw-requires c = known _ _ (good c.args.nodes.now c.args.edges.now (sym (ap gave c.in-Ok.ensures.answer)))
