@@ -1,3 +1,4 @@
 pub mod Tries
 pub mod Scans
 pub mod Every
+pub mod Tried

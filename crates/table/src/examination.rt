@@ -30,10 +30,9 @@ fn examine_arc(rows: usize, index: usize, arc: Arc) -> Result<(), TableFault>
 fn examine_arcs(rows: usize, arcs: &[Arc]) -> Result<(), TableFault>
     ensures { told result ≡ examined_arcs rows 0 arcs.now }
 {
-    for (index, arc) in arcs.iter().enumerate() {
-        examine_arc(rows, index, *arc)?;
-    }
-    Ok(())
+    arcs.iter()
+        .enumerate()
+        .try_for_each(|(index, arc)| examine_arc(rows, index, *arc))
 }
 
 /// The first fault: first the size, then the arcs in their order, of each its choice and then its ends.
