@@ -1,4 +1,4 @@
--- What is known of a drawing whose tables are good, or empty.
+-- What is known of a drawing whose tables are good.
 use Rattle.std.proofs.Common.{◌≡◌, ℕ, ◌≤◌, true, false, List, length, get_or, All, ◌<◌, refl, subst, inl, inr, arith}
 use Rattle.std.proofs.lemmas.List.{get_or_default}
 use Rattle.std.proofs.lemmas.Bool.{cases_Bool, eqb-true, leb-true, both_ways}

@@ -1,6 +1,6 @@
 -- The steps of the loops that sweep over a list and change a row.
-use Rattle.std.proofs.Common.{◌≡◌, ℕ, ◌+◌, ◌<◌, ◌≤◌, List, length, get_or, drop, sym, refl, ap, ◌∙◌, arith}
-use Rattle.std.proofs.lemmas.List.{at_drop_more, at_drop_all}
+use Rattle.std.proofs.Common.{◌≡◌, ℕ, ◌+◌, ◌<◌, List, length, get_or, drop, sym, refl, ap, ◌∙◌, arith}
+use Rattle.std.proofs.lemmas.List.{at_drop_more}
 use Rattle.process.specs.Meaning.{Row}
 use Rattle.token.specs.Known.{AtMost}
 use Rattle.token.specs.Rules.{sweep}
@@ -11,15 +11,9 @@ pub record Swept {X : Type 0} (f : ℕ → X → Row → Row) (i : ℕ) (xs : Li
   pub rest : sweep f i (drop i xs) r ≡ whole
   pub low : AtMost (20000 + i) r
 
-module _ {X : Type 0} (f : ℕ → X → Row → Row) (i : ℕ) (xs : List X) (r whole : Row) where
-  pub sweep_on : (s : Row) (x : X) → i < length xs → s ≡ f i (get_or xs i x) r → sweep f i (drop i xs) r ≡ whole → sweep f (i + 1) (drop (i + 1) xs) s ≡ whole
-  sweep_on s x h e w = ap (sweep f (i + 1) (drop (i + 1) xs)) e ∙ sym (at_drop_more (λ ys. sweep f i ys r) xs i x h) ∙ w
-
-  pub sweep_end : length xs ≤ i → sweep f i (drop i xs) r ≡ whole → r ≡ whole
-  sweep_end h w = sym (at_drop_all (λ ys. sweep f i ys r) xs i h) ∙ w
-
-  pub swept_on : (s : Row) (x : X) → ((j : ℕ) (y : X) → Tame (length r) 1 (f j y)) → i < length xs → s ≡ f i (get_or xs i x) r → Swept f i xs r whole → Swept f (i + 1) xs s whole
-  swept_on s x t h e w = record {
-    rest = sweep_on s x h e w.rest;
-    low = λ k. omega (arith, (t i (get_or xs i x)).low (20000 + i) r refl w.low k, ap (λ q. get_or q k 0) e);
-  }
+-- one more element has changed the row, and no cell by more than one
+pub swept_on : {X : Type 0} (f : ℕ → X → Row → Row) (i : ℕ) (xs : List X) (r whole s : Row) (x : X) → ((j : ℕ) (y : X) → Tame (length r) 1 (f j y)) → i < length xs → s ≡ f i (get_or xs i x) r → Swept f i xs r whole → Swept f (i + 1) xs s whole
+swept_on f i xs r whole s x t h e w = record {
+  rest = ap (sweep f (i + 1) (drop (i + 1) xs)) e ∙ sym (at_drop_more (λ ys. sweep f i ys r) xs i x h) ∙ w.rest;
+  low = λ k. omega (arith, (t i (get_or xs i x)).low (20000 + i) r refl w.low k, ap (λ q. get_or q k 0) e);
+}

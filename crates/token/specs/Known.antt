@@ -31,6 +31,10 @@ pub record Known (ns : List Node) (es : List Edge) : Type 0 where
 abbrev pub AtMost : ℕ → Row → Type 0
 AtMost b r = (k : ℕ) → slice_index r k ≤ b
 
+-- where no cell passes a bound before a change, none does after it
+abbrev pub RaisesNone : Row → Row → Type 0
+RaisesNone before after = (b : ℕ) → AtMost b before → AtMost b after
+
 -- a row of the width of a drawing, of which no cell passes b
 pub record LowRow (d : Drawing) (b : ℕ) (r : Row) : Type 0 where
   pub long : length r ≡ width_of d

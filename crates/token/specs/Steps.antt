@@ -6,7 +6,7 @@ use Rattle.token_tables.specs.declared.node.Node.{Node}
 use Rattle.token_tables.specs.declared.edge.Edge.{Edge}
 use Rattle.token_tables.specs.Kinds.{is_begin}
 use Rattle.token.specs.Clocks.{is_after}
-use Rattle.token.specs.Known.{AtMost}
+use Rattle.token.specs.Known.{RaisesNone}
 use Rattle.token.specs.Rules.{up, down, clear, sweep, is_boundary_of, start_one, pass_one, give_one, take_one, disarm_one, arm_one}
 use Rattle.token.specs.Tame.{Tame, tame_more, tame_none, tame_zero, tame_up, tame_down, tame_if, tame_both, tame_clear, tame_sweep, at_most_by}
 
@@ -39,5 +39,5 @@ module _ (w : ℕ) where
       (tame_both w 1 0 (λ r. up r i) (λ r. slice_set r (n + i) 0) (tame_up w i) (tame_zero w (n + i))) tame_still
 
 -- a sweep of changes that raise no cell raises none
-pub sweep_low : {X : Type 0} (f : ℕ → X → Row → Row) → ((w i : ℕ) (x : X) → Tame w 0 (f i x)) → (xs : List X) (r s : Row) (b : ℕ) → s ≡ sweep f 0 xs r → AtMost b r → AtMost b s
-sweep_low f t xs r s b e h = at_most_by _ s (b + 0 * length xs) b e (omega arith) ((tame_sweep (length r) 0 f (t (length r)) 0 xs).low b r refl h)
+pub sweep_low : {X : Type 0} (f : ℕ → X → Row → Row) → ((w i : ℕ) (x : X) → Tame w 0 (f i x)) → (xs : List X) (r s : Row) → s ≡ sweep f 0 xs r → RaisesNone r s
+sweep_low f t xs r s e b h = at_most_by _ s (b + 0 * length xs) b e (omega arith) ((tame_sweep (length r) 0 f (t (length r)) 0 xs).low b r refl h)

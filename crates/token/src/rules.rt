@@ -1,9 +1,9 @@
 //! What each act does.
-ghost use Rattle.std.specs.Prelude.{◌≡◌, ℕ, ◌<◌, length};
+ghost use Rattle.std.specs.Prelude.{◌≡◌, ◌<◌, length};
 ghost use Rattle.token_tables.specs.Tables.{n_of, e_of, node_at};
 ghost use Rattle.token.specs.Rows.{day_of, width_of, safe};
 ghost use Rattle.token.specs.Rules.{choices_of, act_of, Of, wiped, start_row, given, taken, disarmed, armed, passed, ceded, completed, entered, after_enter, after_choose, made};
-ghost use Rattle.token.specs.Known.{AtMost, LowRow};
+ghost use Rattle.token.specs.Known.{AtMost, RaisesNone, LowRow};
 ghost use Rattle.token.specs.Drawn.{drawing_of};
 
 use crate::act::Act;
@@ -116,7 +116,7 @@ impl TokenDrawing {
     fn take(&self, n: usize, out: &mut [u16])
         requires { LowRow (drawing_of self.now) 20000 out.old }
         ensures same { out.new ≡ taken (drawing_of self.now) n out.old }
-        ensures low { (most : ℕ) → AtMost most out.old → AtMost most out.new }
+        ensures low { RaisesNone out.old out.new }
     {
         let first = 2 * self.node_list().len();
         sweep(self.edge_list(), Take { first, into: n }, out);
@@ -128,31 +128,19 @@ impl TokenDrawing {
         ensures { out.new ≡ armed (drawing_of self.now) task out.old }
     {
         let nodes = self.node_list();
-        sweep(
-            nodes,
-            Arm {
-                first: nodes.len(),
-                task,
-            },
-            out,
-        );
+        let first = nodes.len();
+        sweep(nodes, Arm { first, task }, out);
     }
 
     // Each boundary of the task loses its marks, and its clock becomes 0.
     fn disarm(&self, task: usize, out: &mut [u16])
         requires { LowRow (drawing_of self.now) 20000 out.old }
         ensures same { out.new ≡ disarmed (drawing_of self.now) task out.old }
-        ensures low { (most : ℕ) → AtMost most out.old → AtMost most out.new }
+        ensures low { RaisesNone out.old out.new }
     {
         let nodes = self.node_list();
-        sweep(
-            nodes,
-            Disarm {
-                first: nodes.len(),
-                task,
-            },
-            out,
-        );
+        let first = nodes.len();
+        sweep(nodes, Disarm { first, task }, out);
     }
 
     // What goes when the node completes.

@@ -10,6 +10,7 @@ use Rattle.token_tables.specs.declared.mode.Mode.{Mode}
 use Rattle.token_tables.specs.declared.mode.Mode.TheVariants as mode
 use Rattle.token_tables.specs.Tables.{Drawing, n_of, no_node, no_edge, node_at, kind_of, source_of, target_of, outgoing}
 use Rattle.token_tables.proofs.Codes.{decides_kind, decides_mode}
+use Rattle.token_tables.proofs.Goods.{decides_leb}
 use Rattle.token.specs.declared.act.Act.{Act}
 use Rattle.token.specs.declared.act.Act.TheVariants.{Pass, Complete, Enter, Choose}
 use Rattle.token.specs.Clocks.{is_after, clock_top, cap_of}
@@ -18,9 +19,6 @@ use Rattle.token.specs.Rules.{Of, rings, node_due, any_due, is_due, ready, is_fr
 use Rattle.token.specs.Numbered.{decides_each, decides_none}
 use Rattle.token_rules.specs.Relation.{State, Safe, Rings, Due, Calm, Gathered, Ready, due, begun, gathered}
 use Rattle.token_rules.specs.Showing.{state_of}
-
-decides_leb : (a b : ℕ) → Decides (leb a b) (a ≤ b)
-decides_leb a b = (leb-true a b, le-leb a b)
 
 decides_if : (a b : Bool) {A B : Type 0} → Decides a A → Decides b B → Decides (not a || b) (A → B)
 decides_if true b p q = (λ h x. q.0 h, λ h. q.1 (h (p.0 refl)))

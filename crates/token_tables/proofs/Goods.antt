@@ -15,7 +15,7 @@ use Rattle.token_tables.specs.Examination.{mode_fits, amount_fits, host_fits, co
 use Rattle.token_tables.specs.Good.{Good}
 use Rattle.token_tables.proofs.Codes.{decides_kind}
 
-decides_leb : (a b : ℕ) → Decides (leb a b) (a ≤ b)
+pub decides_leb : (a b : ℕ) → Decides (leb a b) (a ≤ b)
 decides_leb a b = (leb-true a b, le-leb a b)
 
 decides_itself : (b : Bool) → Decides b (b ≡ true)

@@ -3,4 +3,4 @@ use Rattle.token.specs.Steps.{disarm_tame, sweep_low}
 use Rattle.token.proofs.token_drawing.TokenDrawing.disarm.Goals as goal
 
 pub returns-clause-low : goal.returns-clause-low
-returns-clause-low c = λ most low. sweep_low (disarm_one _ _) (λ w. disarm_tame w _ _) c.node_list-nodes.result.now _ _ most c.sweep.ensures low
+returns-clause-low c = sweep_low (disarm_one _ _) (λ w. disarm_tame w _ _) c.node_list-nodes.result.now _ _ c.sweep.ensures
