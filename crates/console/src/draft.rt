@@ -5,10 +5,11 @@ use book::{ListedBook, ListingFault};
 use process::Process;
 use std::alloc::{AllocError, Global};
 use table::{Arc, Table, TableFault};
-use token::TokenDrawing;
+use token::{Act, TokenDrawing};
 use token_rules::draw;
 use token_tables::{DrawingFault, Edge, Node};
 
+// The name as a value of its own.
 fn owned(heap: Global, name: Option<&str>) -> Result<Option<String>, AllocError> {
     name.map(|name| String::from_str(heap, name)).transpose()
 }
@@ -16,7 +17,7 @@ fn owned(heap: Global, name: Option<&str>) -> Result<Option<String>, AllocError>
 /// A table, as far as it is written.
 #[derive(Drop)]
 pub(crate) struct TableDraft {
-    /// Whether each row is safe. The names of the rows lie apart, since a table is made of a list of this alone.
+    /// Whether each row is safe. A list of its own, since `Table::new` takes it; the rows' names are in `names`.
     pub safe: Vec<bool>,
     pub arcs: Vec<Arc>,
     pub names: Names,
@@ -29,6 +30,26 @@ impl TableDraft {
             arcs: Vec::new(heap),
             names: Names::new(heap),
         }
+    }
+
+    pub(crate) fn add_row(
+        &mut self,
+        heap: Global,
+        safe: bool,
+        name: Option<&str>,
+    ) -> Result<(), AllocError> {
+        self.names.rows.push(owned(heap, name)?)?;
+        self.safe.push(safe)?;
+        Ok(())
+    }
+
+    pub(crate) fn name_choice(
+        &mut self,
+        heap: Global,
+        choice: usize,
+        name: Option<&str>,
+    ) -> Result<(), AllocError> {
+        self.names.name_choice(choice, owned(heap, name)?)
     }
 
     pub(crate) fn examine(&self) -> Result<(), TableFault> {
@@ -54,7 +75,7 @@ impl TableDraft {
 pub(crate) struct DrawingDraft {
     pub nodes: Vec<Node>,
     pub edges: Vec<Edge>,
-    /// The names of the nodes. They lie apart, since a drawing is made of nodes and edges alone.
+    /// The name of each node. A list of its own, since `draw` takes a slice of nodes.
     pub names: Vec<Option<String>>,
 }
 
@@ -65,6 +86,17 @@ impl DrawingDraft {
             edges: Vec::new(heap),
             names: Vec::new(heap),
         }
+    }
+
+    pub(crate) fn add_node(
+        &mut self,
+        heap: Global,
+        node: Node,
+        name: Option<&str>,
+    ) -> Result<(), AllocError> {
+        self.names.push(owned(heap, name)?)?;
+        self.nodes.push(node)?;
+        Ok(())
     }
 
     pub(crate) fn examine(&self) -> Result<(), DrawingFault> {
@@ -154,37 +186,6 @@ impl Draft {
         self.listing = Listing::new(heap, width);
     }
 
-    pub(crate) fn add_row(
-        &mut self,
-        heap: Global,
-        safe: bool,
-        name: Option<&str>,
-    ) -> Result<(), AllocError> {
-        self.table.names.rows.push(owned(heap, name)?)?;
-        self.table.safe.push(safe)?;
-        Ok(())
-    }
-
-    pub(crate) fn add_node(
-        &mut self,
-        heap: Global,
-        node: Node,
-        name: Option<&str>,
-    ) -> Result<(), AllocError> {
-        self.drawing.names.push(owned(heap, name)?)?;
-        self.drawing.nodes.push(node)?;
-        Ok(())
-    }
-
-    pub(crate) fn name_choice(
-        &mut self,
-        heap: Global,
-        choice: usize,
-        name: Option<&str>,
-    ) -> Result<(), AllocError> {
-        self.table.names.name_choice(choice, owned(heap, name)?)
-    }
-
     // By what the procedure is told in words.
     fn telling(&self, heap: Global) -> Result<Telling, AllocError> {
         match self.stated {
@@ -211,7 +212,7 @@ impl Draft {
     }
 
     /// The choice that stands for the act, if a drawing was begun last and has the act.
-    pub(crate) fn choice(&self, act: token::Act) -> Option<usize> {
+    pub(crate) fn choice(&self, act: Act) -> Option<usize> {
         match self.stated {
             Stated::Table => None,
             Stated::Drawing => self.drawing.drawing().choice(act),

@@ -93,10 +93,9 @@ impl<'a> Printer<'a> {
             }
             (Reply::Moved, _) => Ok(()),
             (Reply::Shown, _) => {
-                let open = open_choices(self.heap(), telling, cells.0)?;
                 let open = OpenWords {
                     telling,
-                    open: &open,
+                    open: open_choices(self.heap(), telling, cells.0)?,
                 };
                 self.say(format_args!("shown {cells}; {row}{open}"))
             }
@@ -134,13 +133,18 @@ impl<'a> Printer<'a> {
     }
 }
 
-// The choices of a drawing that are allowed at this row; none for a table.
-fn open_choices(heap: Global, telling: &Telling, cells: &[u16]) -> Result<Vec<usize>, AllocError> {
+// The choices of a drawing that are allowed at this row; a table is told without.
+fn open_choices(
+    heap: Global,
+    telling: &Telling,
+    cells: &[u16],
+) -> Result<Option<Vec<usize>>, AllocError> {
     let Some(drawing) = telling.drawing() else {
-        return Ok(Vec::new(heap));
+        return Ok(None);
     };
     let mut next = vec![in heap; 0u16; cells.len()]?;
-    (0..drawing.choices())
+    let open = (0..drawing.choices())
         .filter(|&choice| drawing.next(cells, choice, &mut next).is_ok())
-        .collect(heap)
+        .collect(heap)?;
+    Ok(Some(open))
 }

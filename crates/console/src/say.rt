@@ -51,22 +51,26 @@ impl fmt::Display for Target<'_> {
     }
 }
 
+/// Until when a node waits, or how long.
+#[derive(Clone, Copy)]
+pub(crate) enum Timer {
+    Until { day: u16 },
+    Units { clock: u16, length: u16 },
+}
+
 /// How long a marked node is yet to wait.
 #[derive(Clone, Copy)]
-pub(crate) enum Waiting {
-    Until { day: u16, due: bool },
-    Units { clock: u16, length: u16, due: bool },
+pub(crate) struct Waiting {
+    pub timer: Timer,
+    pub due: bool,
 }
 
 impl fmt::Display for Waiting {
     fn fmt<W: fmt::Write>(&self, f: &mut fmt::Formatter<W>) -> fmt::Result {
-        let due = match self {
-            Waiting::Until { due: true, .. } | Waiting::Units { due: true, .. } => ", due",
-            _ => "",
-        };
-        match self {
-            Waiting::Until { day, .. } => write!(f, "until day {day}{due}"),
-            Waiting::Units { clock, length, .. } => write!(f, "{clock} of {length} units{due}"),
+        let due = if self.due { ", due" } else { "" };
+        match self.timer {
+            Timer::Until { day } => write!(f, "until day {day}{due}"),
+            Timer::Units { clock, length } => write!(f, "{clock} of {length} units{due}"),
         }
     }
 }
@@ -116,15 +120,15 @@ impl fmt::Display for Part<'_> {
 }
 
 // What stands at the row of a drawing.
-fn write_parts<'a, W: fmt::Write>(
+fn write_parts<W: fmt::Write>(
     f: &mut fmt::Formatter<W>,
-    sheet: &'a Sheet,
-    cells: &'a [u16],
+    sheet: &Sheet,
+    cells: &[u16],
 ) -> fmt::Result {
     let mut parts = cells
         .iter()
         .enumerate()
-        .filter_map(|(cell, value)| Part::of(sheet, cells, cell, *value));
+        .filter_map(|(cell, &value)| Part::of(sheet, cells, cell, value));
     let Some(first) = parts.next() else {
         return write!(f, "nothing is marked");
     };
@@ -196,22 +200,22 @@ impl fmt::Display for ChoiceWords<'_> {
 }
 
 /// The choices that are open, each with its words; nothing for a table.
-#[derive(Clone, Copy)]
+#[derive(Drop)]
 pub(crate) struct OpenWords<'a> {
     pub telling: &'a Telling,
-    pub open: &'a [usize],
+    pub open: Option<Vec<usize>>,
 }
 
 impl fmt::Display for OpenWords<'_> {
     fn fmt<W: fmt::Write>(&self, f: &mut fmt::Formatter<W>) -> fmt::Result {
-        if let Telling::Written(_) = self.telling {
+        let Some(open) = &self.open else {
             return Ok(());
-        }
+        };
         write!(f, "; open:")?;
-        for choice in self.open {
-            write!(f, " [{choice}] {}", self.telling.choice(*choice))?;
+        for &choice in open.iter() {
+            write!(f, " [{choice}] {}", self.telling.choice(choice))?;
         }
-        if self.open.is_empty() {
+        if open.is_empty() {
             write!(f, " nothing")?;
         }
         Ok(())

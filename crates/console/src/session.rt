@@ -26,7 +26,7 @@ struct OpenRun {
 /// The calls that are noted for a rehearsal.
 #[derive(Drop)]
 struct Rehearsal {
-    /// The line of each call. The lines lie apart, since a rehearsal takes a list of exchanges alone.
+    /// The line of each call. A list of its own, since `rehearse` takes a slice of exchanges.
     lines: Vec<usize>,
     exchanges: Vec<Exchange>,
 }
@@ -55,8 +55,8 @@ impl Rehearsal {
         let facts = draft.facts(printer.heap(), &process)?;
         let done = rehearse(process, &draft.listing.book(), &mut exchanges);
         printer.verdict(done.verdict)?;
-        for (line, exchange) in lines.iter().zip(exchanges.iter()) {
-            printer.at(*line).exchange(exchange, &facts)?;
+        for (&line, exchange) in lines.iter().zip(&exchanges) {
+            printer.at(line).exchange(exchange, &facts)?;
         }
         printer.closed(&done.run, &facts.telling)
     }
@@ -64,7 +64,7 @@ impl Rehearsal {
 
 // A buffer of this length, filled with a number that no row of the table has.
 fn buffer(heap: Global, length: usize) -> Result<Vec<u16>, AllocError> {
-    vec![in heap; 65535; length]
+    vec![in heap; u16::MAX; length]
 }
 
 fn exchange(heap: Global, call: Call, length: usize) -> Result<Exchange, AllocError> {
@@ -239,11 +239,11 @@ impl Session {
         match command {
             Command::Nothing => {}
             Command::Table => self.draft.begin_table(heap),
-            Command::Row { safe, name } => self.draft.add_row(heap, safe, name)?,
-            Command::Choice { choice, name } => self.draft.name_choice(heap, choice, name)?,
+            Command::Row { safe, name } => self.draft.table.add_row(heap, safe, name)?,
+            Command::Choice { choice, name } => self.draft.table.name_choice(heap, choice, name)?,
             Command::Arc(arc) => self.draft.table.arcs.push(arc)?,
             Command::Drawing => self.draft.begin_drawing(heap),
-            Command::Node { node, name } => self.draft.add_node(heap, node, name)?,
+            Command::Node { node, name } => self.draft.drawing.add_node(heap, node, name)?,
             Command::Edge(edge) => self.draft.drawing.edges.push(edge)?,
             Command::Book { width } => self.draft.begin_book(heap, width),
             Command::Cells(cells) => self.draft.listing.cells.extend_from_slice(&cells)?,

@@ -1,6 +1,6 @@
 //! What a person is told of a procedure.
 use crate::draft::DrawingDraft;
-use crate::say::{ChoiceWords, NodeName, RowWords, Target, Waiting};
+use crate::say::{ChoiceWords, NodeName, RowWords, Target, Timer, Waiting};
 use std::alloc::{AllocError, Global};
 use std::collections::BTreeMap;
 use token::TokenDrawing;
@@ -72,16 +72,18 @@ impl Sheet {
     /// How long the marked node is yet to wait, if it is timed.
     pub(crate) fn waiting(&self, node: usize, cells: &[u16]) -> Option<Waiting> {
         let Node { mode, amount, .. } = *self.written.nodes.get(node)?;
-        let due = self.drawing.is_due(cells, node);
-        match mode {
-            Mode::At => Some(Waiting::Until { day: amount, due }),
-            Mode::After => Some(Waiting::Units {
+        let timer = match mode {
+            Mode::At => Timer::Until { day: amount },
+            Mode::After => Timer::Units {
                 clock: self.clock(node, cells)?,
                 length: amount,
-                due,
-            }),
-            Mode::Untimed | Mode::Other(_) => None,
-        }
+            },
+            Mode::Untimed | Mode::Other(_) => return None,
+        };
+        Some(Waiting {
+            timer,
+            due: self.drawing.is_due(cells, node),
+        })
     }
 }
 
