@@ -77,44 +77,59 @@ impl fmt::Display for Waiting {
 
 /// What a cell of a row of a drawing says.
 #[derive(Clone, Copy)]
-struct Part<'a> {
-    sheet: &'a Sheet,
-    cells: &'a [u16],
-    place: Place,
-    value: u16,
+enum Part<'a> {
+    Mark {
+        name: NodeName<'a>,
+        twice: bool,
+        waiting: Option<Waiting>,
+    },
+    Flow {
+        edge: usize,
+        target: Target<'a>,
+    },
+    Day(u16),
 }
 
 impl<'a> Part<'a> {
-    // What is told of a cell, if anything is. A clock is told with its node.
-    fn of(sheet: &'a Sheet, cells: &'a [u16], cell: usize, value: u16) -> Option<Part<'a>> {
-        let place = sheet.drawing.place(cell)?;
-        if value == 0 || matches!(place, Place::Clock { .. }) {
+    // What is told of a cell, if anything is.
+    fn of(sheet: &'a Sheet, cells: &[u16], cell: usize, value: u16) -> Option<Part<'a>> {
+        if value == 0 {
             return None;
         }
-        Some(Part {
-            sheet,
-            cells,
-            place,
-            value,
-        })
+        match sheet.drawing.place(cell)? {
+            Place::Mark { node } => Some(Part::Mark {
+                name: sheet.node(node),
+                twice: value > 1,
+                waiting: sheet.waiting(node, cells),
+            }),
+            // A clock is told with its node.
+            Place::Clock { .. } => None,
+            Place::Flow { edge } => Some(Part::Flow {
+                edge,
+                target: sheet.target(edge),
+            }),
+            Place::Day => Some(Part::Day(value)),
+        }
     }
 }
 
 impl fmt::Display for Part<'_> {
     fn fmt<W: fmt::Write>(&self, f: &mut fmt::Formatter<W>) -> fmt::Result {
-        let value = self.value;
-        let marks = if value > 1 { "twice at" } else { "at" };
-        match self.place {
-            Place::Mark { node } => {
-                write!(f, "{marks} {}", self.sheet.node(node))?;
-                match self.sheet.waiting(node, self.cells) {
+        match self {
+            Part::Mark {
+                name,
+                twice,
+                waiting,
+            } => {
+                let marks = if *twice { "twice at" } else { "at" };
+                write!(f, "{marks} {name}")?;
+                match waiting {
                     Some(waiting) => write!(f, " ({waiting})"),
                     None => Ok(()),
                 }
             }
-            Place::Clock { node } => write!(f, "clock {node} at {value}"),
-            Place::Flow { edge } => write!(f, "on edge {edge} to {}", self.sheet.target(edge)),
-            Place::Day => write!(f, "day {value}"),
+            Part::Flow { edge, target } => write!(f, "on edge {edge} to {target}"),
+            Part::Day(day) => write!(f, "day {day}"),
         }
     }
 }

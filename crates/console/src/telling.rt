@@ -49,11 +49,14 @@ pub(crate) struct Sheet {
 }
 
 impl Sheet {
+    fn name(&self, node: usize) -> Option<&str> {
+        self.written.names.get(node)?.as_deref()
+    }
+
     pub(crate) fn node(&self, node: usize) -> NodeName<'_> {
-        let name = self.written.names.get(node);
         NodeName {
             node,
-            name: name.and_then(|name| name.as_deref()),
+            name: self.name(node),
         }
     }
 
