@@ -23,44 +23,8 @@ struct OpenRun {
     facts: Facts,
 }
 
-/// The calls that are noted for a rehearsal.
-#[derive(Drop)]
-struct Rehearsal {
-    /// The line of each call. A list of its own, since `rehearse` takes a slice of exchanges.
-    lines: Vec<usize>,
-    exchanges: Vec<Exchange>,
-}
-
-impl Rehearsal {
-    fn new(heap: Global) -> Rehearsal {
-        Rehearsal {
-            lines: Vec::new(heap),
-            exchanges: Vec::new(heap),
-        }
-    }
-
-    fn note(&mut self, line: usize, exchange: Exchange) -> Result<(), AllocError> {
-        self.lines.push(line)?;
-        self.exchanges.push(exchange)?;
-        Ok(())
-    }
-
-    // Inspects the book, and plays the calls in a run that is opened for them.
-    fn hold(self, printer: Printer<'_>, draft: &Draft) -> io::Result<()> {
-        let Rehearsal {
-            lines,
-            mut exchanges,
-        } = self;
-        let process = draft.procedure()?;
-        let facts = draft.facts(printer.heap(), &process)?;
-        let done = rehearse(process, &draft.listing.book(), &mut exchanges);
-        printer.verdict(done.verdict)?;
-        for (&line, exchange) in lines.iter().zip(&exchanges) {
-            printer.at(line).exchange(exchange, &facts)?;
-        }
-        printer.closed(&done.run, &facts.telling)
-    }
-}
+/// A call that is noted for a rehearsal, with its line.
+type Noted = (usize, Exchange);
 
 // A buffer of this length, filled with a number that no row of the table has.
 fn buffer(heap: Global, length: usize) -> Result<Vec<u16>, AllocError> {
@@ -75,12 +39,27 @@ fn exchange(heap: Global, call: Call, length: usize) -> Result<Exchange, AllocEr
     })
 }
 
+// Inspects the book, and plays the calls in a run that is opened for them.
+fn hold(printer: Printer<'_>, draft: &Draft, calls: Vec<Noted>) -> io::Result<()> {
+    let heap = printer.heap();
+    // Two lists, since `rehearse` takes a slice of exchanges.
+    let (lines, mut exchanges): (Vec<usize>, Vec<Exchange>) = calls.into_iter().unzip(heap)?;
+    let process = draft.procedure()?;
+    let facts = draft.facts(heap, &process)?;
+    let done = rehearse(process, &draft.listing.book(), &mut exchanges);
+    printer.verdict(done.verdict)?;
+    for (&line, exchange) in lines.iter().zip(&exchanges) {
+        printer.at(line).exchange(exchange, &facts)?;
+    }
+    printer.closed(&done.run, &facts.telling)
+}
+
 /// What a script has stated and opened so far.
 #[derive(Drop)]
 pub(crate) struct Session {
     draft: Draft,
     run: Option<OpenRun>,
-    rehearsal: Option<Rehearsal>,
+    rehearsal: Option<Vec<Noted>>,
 }
 
 impl Session {
@@ -109,9 +88,9 @@ impl Session {
     // Makes the call on the open run, or notes it for the rehearsal.
     fn make(&mut self, printer: Printer<'_>, call: Call, length: Option<usize>) -> io::Result<()> {
         let heap = printer.heap();
-        if let Some(rehearsal) = &mut self.rehearsal {
+        if let Some(calls) = &mut self.rehearsal {
             let width = self.draft.procedure()?.width();
-            rehearsal.note(printer.line, exchange(heap, call, length.unwrap_or(width))?)?;
+            calls.push((printer.line, exchange(heap, call, length.unwrap_or(width))?))?;
             return Ok(());
         }
         let Some(OpenRun { run, facts }) = &mut self.run else {
@@ -158,7 +137,7 @@ impl Session {
     // Holds the rehearsal whose calls were noted.
     fn end(&mut self, printer: Printer<'_>) -> io::Result<()> {
         match self.rehearsal.take() {
-            Some(rehearsal) => rehearsal.hold(printer, &self.draft),
+            Some(calls) => hold(printer, &self.draft, calls),
             None => printer.bad("no rehearsal has begun"),
         }
     }
@@ -257,7 +236,7 @@ impl Session {
             Command::Make { call, length } => self.make(printer, call, length)?,
             Command::PressAct { act, length } => self.press_act(printer, act, length)?,
             Command::Close => self.close(printer)?,
-            Command::Rehearse => self.rehearsal = Some(Rehearsal::new(heap)),
+            Command::Rehearse => self.rehearsal = Some(Vec::new(heap)),
             Command::End => self.end(printer)?,
         }
         Ok(())
