@@ -1,5 +1,6 @@
 //! Lines of a script, and what they ask for.
 use run::Call;
+use std::alloc::{AllocError, Global};
 use std::fmt;
 use table::Arc;
 use token::Act;
@@ -13,21 +14,32 @@ pub(crate) enum Command<'a> {
     /// A new table begins.
     Table,
     /// The table gets a row.
-    Row { safe: bool, name: &'a str },
+    Row {
+        safe: bool,
+        name: Option<&'a str>,
+    },
     /// A choice gets a name.
-    Choice { choice: usize, name: &'a str },
+    Choice {
+        choice: usize,
+        name: Option<&'a str>,
+    },
     /// The table gets an arc.
-    Arc { arc: Arc },
+    Arc(Arc),
     /// A new drawing begins.
     Drawing,
     /// The drawing gets a node.
-    Node { node: Node, name: &'a str },
+    Node {
+        node: Node,
+        name: Option<&'a str>,
+    },
     /// The drawing gets an edge.
-    Edge { edge: Edge },
+    Edge(Edge),
     /// A new book begins.
-    Book { width: usize },
+    Book {
+        width: usize,
+    },
     /// The book gets these cells.
-    Cells { cells: &'a str },
+    Cells(Vec<u16>),
     /// Whether the table is good.
     ExamineTable,
     /// Whether the drawing is good.
@@ -35,15 +47,24 @@ pub(crate) enum Command<'a> {
     /// Whether the listing is good.
     ExamineBook,
     /// The row of this number is to be copied out of the book.
-    Copy { index: usize, length: Option<usize> },
+    Copy {
+        index: usize,
+        length: Option<usize>,
+    },
     /// Whether the book holds this row.
-    Holds { cells: &'a str },
+    Holds(Vec<u16>),
     Inspect,
     Open,
     /// A call on the open run, or in a rehearsal, with a buffer of this length, or of the width where none is given.
-    Make { call: Call, length: Option<usize> },
+    Make {
+        call: Call,
+        length: Option<usize>,
+    },
     /// A press by what is done in a drawing.
-    PressAct { act: Act, length: Option<usize> },
+    PressAct {
+        act: Act,
+        length: Option<usize>,
+    },
     Close,
     /// The calls that follow are a rehearsal.
     Rehearse,
@@ -59,6 +80,13 @@ pub(crate) enum Misread<'a> {
     NotANumber { word: &'a str, most: usize },
     NeitherSafeNorUnsafe { word: &'a str },
     TooMuch { rest: &'a str },
+    OutOfMemory(AllocError),
+}
+
+impl From<AllocError> for Misread<'_> {
+    fn from(error: AllocError) -> Self {
+        Misread::OutOfMemory(error)
+    }
 }
 
 impl fmt::Display for Misread<'_> {
@@ -78,239 +106,230 @@ impl fmt::Display for Misread<'_> {
                 "a row is safe or unsafe, and not '{word}'"
             ),
             Misread::TooMuch { rest } => write!(f, "'{rest}' is too much on this line"),
+            Misread::OutOfMemory(error) => write!(f, "{error}"),
         }
     }
 }
 
-// The first word, and the rest of the line.
-fn cut(text: &str) -> (&str, &str) {
-    let text = text.trim();
-    match text.split_once(' ') {
-        Some((word, rest)) => (word, rest.trim()),
-        None => (text, ""),
+type Reading<'a, T> = Result<T, Misread<'a>>;
+
+fn cell(word: &str) -> Reading<'_, u16> {
+    word.parse::<u16>()
+        .map_err(|_| Misread::NotANumber { word, most: 65535 })
+}
+
+/// What is left to read of a line.
+#[derive(Clone, Copy)]
+struct Words<'a> {
+    left: &'a str,
+}
+
+impl<'a> Words<'a> {
+    fn of(line: &'a str) -> Words<'a> {
+        Words { left: line.trim() }
+    }
+
+    // All that is left, if anything is.
+    fn rest(self) -> Option<&'a str> {
+        Some(self.left).filter(|rest| !rest.is_empty())
+    }
+
+    fn next_word(&mut self) -> Option<&'a str> {
+        let rest = self.rest()?;
+        let (word, left) = rest.split_once(' ').unwrap_or((rest, ""));
+        self.left = left.trim();
+        Some(word)
+    }
+
+    fn word(&mut self, what: &'static str) -> Reading<'a, &'a str> {
+        self.next_word().ok_or(Misread::Missing { what })
+    }
+
+    // A number of at most so much.
+    fn number(&mut self, most: usize, what: &'static str) -> Reading<'a, usize> {
+        let word = self.word(what)?;
+        let number = word.parse::<usize>().ok().filter(|n| *n <= most);
+        number.ok_or(Misread::NotANumber { word, most })
+    }
+
+    fn cell(&mut self, what: &'static str) -> Reading<'a, u16> {
+        cell(self.word(what)?)
+    }
+
+    // The cells that are left.
+    fn cells(self, heap: Global) -> Reading<'a, Vec<u16>> {
+        self.left.split_whitespace().map(cell).try_collect(heap)
+    }
+
+    // The number of a node or an edge.
+    fn place(&mut self) -> Reading<'a, usize> {
+        self.number(usize::MAX, "the number of the node or the edge")
+    }
+
+    fn end(self) -> Reading<'a, ()> {
+        match self.rest() {
+            Some(rest) => Err(Misread::TooMuch { rest }),
+            None => Ok(()),
+        }
+    }
+
+    // The command, if nothing is left.
+    fn alone(self, command: Command<'a>) -> Reading<'a, Command<'a>> {
+        self.end()?;
+        Ok(command)
+    }
+
+    // What is left of a call: nothing, or `with` and the buffer's length.
+    fn length(mut self) -> Reading<'a, Option<usize>> {
+        let Some(rest) = self.rest() else {
+            return Ok(None);
+        };
+        if self.next_word() != Some("with") {
+            return Err(Misread::TooMuch { rest });
+        }
+        let length = self.number(65535, "the buffer's length")?;
+        self.end()?;
+        Ok(Some(length))
     }
 }
 
-/// A number of at most so much.
-pub(crate) fn number<'a>(
-    word: &'a str,
-    most: usize,
-    what: &'static str,
-) -> Result<usize, Misread<'a>> {
-    if word.is_empty() {
-        return Err(Misread::Missing { what });
-    }
-    match word.parse::<usize>() {
-        Ok(n) => if n <= most {
-            Ok(n)
-        } else {
-            Err(Misread::NotANumber { word, most })
-        },
-        Err(_) => Err(Misread::NotANumber { word, most }),
-    }
-}
-
-// The one number that is left, or none.
-fn last_number<'a>(rest: &'a str, what: &'static str) -> Result<usize, Misread<'a>> {
-    let (word, more) = cut(rest);
-    let n = number(word, usize::MAX, what)?;
-    nothing(more)?;
-    Ok(n)
-}
-
-fn nothing<'a>(rest: &'a str) -> Result<(), Misread<'a>> {
-    if rest.is_empty() {
-        Ok(())
-    } else {
-        Err(Misread::TooMuch { rest })
-    }
-}
-
-// What is left of a call: nothing, or `with` and the buffer's length.
-fn length<'a>(rest: &'a str) -> Result<Option<usize>, Misread<'a>> {
-    if rest.is_empty() {
-        return Ok(None);
-    }
-    let (word, more) = cut(rest);
-    if word != "with" {
-        return Err(Misread::TooMuch { rest });
-    }
-    let (count, end) = cut(more);
-    let n = number(count, 65535, "the buffer's length")?;
-    nothing(end)?;
-    Ok(Some(n))
-}
-
-fn row<'a>(rest: &'a str) -> Result<Command<'a>, Misread<'a>> {
-    let (word, name) = cut(rest);
-    match word {
-        "safe" => Ok(Command::Row { safe: true, name }),
-        "unsafe" => Ok(Command::Row { safe: false, name }),
-        "" => Err(Misread::Missing {
-            what: "safe or unsafe",
-        }),
-        _ => Err(Misread::NeitherSafeNorUnsafe { word }),
-    }
-}
-
-fn cell<'a>(word: &'a str, what: &'static str) -> Result<u16, Misread<'a>> {
-    let n = number(word, 65535, what)?;
-    match u16::try_from(n) {
-        Ok(cell) => Ok(cell),
-        Err(_) => Err(Misread::NotANumber { word, most: 65535 }),
-    }
-}
-
-fn arc<'a>(rest: &'a str) -> Result<Command<'a>, Misread<'a>> {
-    let (first, more) = cut(rest);
-    let (second, last) = cut(more);
-    let (third, end) = cut(last);
-    let from = cell(first, "the row from which the arc leads")?;
-    let choice = cell(second, "the arc's choice")?;
-    let to = cell(third, "the row to which the arc leads")?;
-    nothing(end)?;
-    Ok(Command::Arc {
-        arc: Arc { from, choice, to },
-    })
-}
-
-fn node<'a>(rest: &'a str) -> Result<Command<'a>, Misread<'a>> {
-    let (first, more) = cut(rest);
-    let (second, others) = cut(more);
-    let (third, last) = cut(others);
-    let (fourth, name) = cut(last);
-    let kind = cell(first, "the node's kind")?;
-    let host = cell(second, "the node's host")?;
-    let mode = cell(third, "the node's mode")?;
-    let amount = cell(fourth, "the node's amount")?;
-    Ok(Command::Node {
-        node: Node {
-            kind: Kind::from(kind),
-            host,
-            mode: Mode::from(mode),
-            amount,
-        },
-        name,
-    })
-}
-
-fn edge<'a>(rest: &'a str) -> Result<Command<'a>, Misread<'a>> {
-    let (first, more) = cut(rest);
-    let (second, end) = cut(more);
-    let source = cell(first, "the node from which the edge leads")?;
-    let target = cell(second, "the node to which the edge leads")?;
-    nothing(end)?;
-    Ok(Command::Edge {
-        edge: Edge { source, target },
-    })
-}
-
-fn choice<'a>(rest: &'a str) -> Result<Command<'a>, Misread<'a>> {
-    let (word, name) = cut(rest);
-    let choice = number(word, 4095, "the choice")?;
-    Ok(Command::Choice { choice, name })
-}
-
-// A press by a word for what is done, at a node or an edge.
-fn press_at<'a>(word: &str, rest: &'a str) -> Result<Command<'a>, Misread<'a>> {
-    let (first, more) = cut(rest);
-    let place = number(first, usize::MAX, "the number of the node or the edge")?;
-    let act = match word {
-        "complete" => Act::Complete { node: place },
-        "enter" => Act::Enter { edge: place },
-        _ => Act::Choose { edge: place },
+fn row(mut words: Words<'_>) -> Reading<'_, Command<'_>> {
+    let safe = match words.word("safe or unsafe")? {
+        "safe" => true,
+        "unsafe" => false,
+        word => return Err(Misread::NeitherSafeNorUnsafe { word }),
     };
-    Ok(Command::PressAct {
-        act,
-        length: length(more)?,
+    Ok(Command::Row {
+        safe,
+        name: words.rest(),
     })
 }
 
-fn press<'a>(rest: &'a str) -> Result<Command<'a>, Misread<'a>> {
-    let (word, more) = cut(rest);
-    match word {
-        "pass" => Ok(Command::PressAct {
-            act: Act::Pass,
-            length: length(more)?,
-        }),
-        "complete" | "enter" | "choose" => press_at(word, more),
-        _ => press_choice(rest),
-    }
-}
-
-fn press_choice<'a>(rest: &'a str) -> Result<Command<'a>, Misread<'a>> {
-    let (word, more) = cut(rest);
-    let choice = number(word, usize::MAX, "the choice")?;
-    Ok(Command::Make {
-        call: Call::Press { choice },
-        length: length(more)?,
+fn choice(mut words: Words<'_>) -> Reading<'_, Command<'_>> {
+    Ok(Command::Choice {
+        choice: words.number(4095, "the choice")?,
+        name: words.rest(),
     })
 }
 
-fn copy<'a>(rest: &'a str) -> Result<Command<'a>, Misread<'a>> {
-    let (word, more) = cut(rest);
-    let index = number(word, usize::MAX, "the row's number")?;
-    Ok(Command::Copy {
-        index,
-        length: length(more)?,
+fn arc(mut words: Words<'_>) -> Reading<'_, Command<'_>> {
+    let arc = Arc {
+        from: words.cell("the row from which the arc leads")?,
+        choice: words.cell("the arc's choice")?,
+        to: words.cell("the row to which the arc leads")?,
+    };
+    words.alone(Command::Arc(arc))
+}
+
+fn node(mut words: Words<'_>) -> Reading<'_, Command<'_>> {
+    let node = Node {
+        kind: Kind::from(words.cell("the node's kind")?),
+        host: words.cell("the node's host")?,
+        mode: Mode::from(words.cell("the node's mode")?),
+        amount: words.cell("the node's amount")?,
+    };
+    Ok(Command::Node {
+        node,
+        name: words.rest(),
     })
 }
 
-fn examine<'a>(rest: &'a str) -> Result<Command<'a>, Misread<'a>> {
-    match rest {
+fn edge(mut words: Words<'_>) -> Reading<'_, Command<'_>> {
+    let edge = Edge {
+        source: words.cell("the node from which the edge leads")?,
+        target: words.cell("the node to which the edge leads")?,
+    };
+    words.alone(Command::Edge(edge))
+}
+
+fn book(mut words: Words<'_>) -> Reading<'_, Command<'_>> {
+    let width = words.number(usize::MAX, "the width")?;
+    words.alone(Command::Book { width })
+}
+
+fn examine(words: Words<'_>) -> Reading<'_, Command<'_>> {
+    match words.left {
         "table" => Ok(Command::ExamineTable),
         "nodes" => Ok(Command::ExamineDrawing),
         "book" => Ok(Command::ExamineBook),
         "" => Err(Misread::Missing {
             what: "table, nodes or book",
         }),
-        _ => Err(Misread::TooMuch { rest }),
+        rest => Err(Misread::TooMuch { rest }),
     }
 }
 
-fn alone<'a>(command: Command<'a>, rest: &'a str) -> Result<Command<'a>, Misread<'a>> {
-    match nothing(rest) {
-        Ok(()) => Ok(command),
-        Err(why) => Err(why),
-    }
+fn copy(mut words: Words<'_>) -> Reading<'_, Command<'_>> {
+    Ok(Command::Copy {
+        index: words.number(usize::MAX, "the row's number")?,
+        length: words.length()?,
+    })
+}
+
+fn make<'a>(call: Call, words: Words<'a>) -> Reading<'a, Command<'a>> {
+    Ok(Command::Make {
+        call,
+        length: words.length()?,
+    })
+}
+
+fn press_choice(mut words: Words<'_>) -> Reading<'_, Command<'_>> {
+    let choice = words.number(usize::MAX, "the choice")?;
+    make(Call::Press { choice }, words)
+}
+
+// A press by a word for what is done, or by the number of a choice.
+fn press(words: Words<'_>) -> Reading<'_, Command<'_>> {
+    let mut after = words;
+    let act = match after.next_word() {
+        Some("pass") => Act::Pass,
+        Some("complete") => Act::Complete {
+            node: after.place()?,
+        },
+        Some("enter") => Act::Enter {
+            edge: after.place()?,
+        },
+        Some("choose") => Act::Choose {
+            edge: after.place()?,
+        },
+        _ => return press_choice(words),
+    };
+    Ok(Command::PressAct {
+        act,
+        length: after.length()?,
+    })
 }
 
 /// What a line asks for.
-pub(crate) fn read<'a>(line: &'a str) -> Result<Command<'a>, Misread<'a>> {
-    let (word, rest) = cut(line);
+pub(crate) fn read(heap: Global, line: &str) -> Reading<'_, Command<'_>> {
+    let mut words = Words::of(line);
+    let Some(word) = words.next_word() else {
+        return Ok(Command::Nothing);
+    };
     if word.starts_with('#') {
         return Ok(Command::Nothing);
     }
     match word {
-        "" => Ok(Command::Nothing),
-        "table" => alone(Command::Table, rest),
-        "row" => row(rest),
-        "choice" => choice(rest),
-        "arc" => arc(rest),
-        "drawing" => alone(Command::Drawing, rest),
-        "node" => node(rest),
-        "edge" => edge(rest),
-        "book" => Ok(Command::Book {
-            width: last_number(rest, "the width")?,
-        }),
-        "cells" => Ok(Command::Cells { cells: rest }),
-        "examine" => examine(rest),
-        "copy" => copy(rest),
-        "holds" => Ok(Command::Holds { cells: rest }),
-        "inspect" => alone(Command::Inspect, rest),
-        "open" => alone(Command::Open, rest),
-        "press" => press(rest),
-        "look" => Ok(Command::Make {
-            call: Call::Look,
-            length: length(rest)?,
-        }),
-        "openings" => Ok(Command::Make {
-            call: Call::Openings,
-            length: length(rest)?,
-        }),
-        "close" => alone(Command::Close, rest),
-        "rehearse" => alone(Command::Rehearse, rest),
-        "end" => alone(Command::End, rest),
+        "table" => words.alone(Command::Table),
+        "row" => row(words),
+        "choice" => choice(words),
+        "arc" => arc(words),
+        "drawing" => words.alone(Command::Drawing),
+        "node" => node(words),
+        "edge" => edge(words),
+        "book" => book(words),
+        "cells" => Ok(Command::Cells(words.cells(heap)?)),
+        "examine" => examine(words),
+        "copy" => copy(words),
+        "holds" => Ok(Command::Holds(words.cells(heap)?)),
+        "inspect" => words.alone(Command::Inspect),
+        "open" => words.alone(Command::Open),
+        "press" => press(words),
+        "look" => make(Call::Look, words),
+        "openings" => make(Call::Openings, words),
+        "close" => words.alone(Command::Close),
+        "rehearse" => words.alone(Command::Rehearse),
+        "end" => words.alone(Command::End),
         _ => Err(Misread::NoSuchCommand { word }),
     }
 }

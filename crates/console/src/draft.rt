@@ -1,83 +1,45 @@
 //! What a script has stated so far: a table or a drawing, a listing, and names for a person.
-use crate::command::Misread;
 use crate::procedure::Procedure;
-use crate::telling::{Names, Sheet, Telling};
+use crate::telling::{Facts, Names, Sheet, Telling};
+use book::{ListedBook, ListingFault};
+use process::Process;
 use std::alloc::{AllocError, Global};
-use table::{Arc, Table};
-use token::TokenDrawing;
+use table::{Arc, Table, TableFault};
+use token::{Act, TokenDrawing};
 use token_rules::draw;
-use token_tables::{Edge, Node};
+use token_tables::{DrawingFault, Edge, Node};
 
-/// Which of the two was begun last, and is run.
-#[derive(Clone, Copy)]
-pub(crate) enum Stated {
-    Table,
-    Drawing,
+// The name as a value of its own.
+fn owned(heap: Global, name: Option<&str>) -> Result<Option<String>, AllocError> {
+    name.map(|name| String::from_str(heap, name)).transpose()
 }
 
-/// A table, a drawing and a listing, as far as they are written.
+/// A table, as far as it is written.
 #[derive(Drop)]
-pub(crate) struct Draft {
-    pub stated: Stated,
+pub(crate) struct TableDraft {
+    /// Whether each row is safe. A list of its own, since `Table::new` takes it; the rows' names are in `names`.
     pub safe: Vec<bool>,
     pub arcs: Vec<Arc>,
     pub names: Names,
-    pub nodes: Vec<Node>,
-    pub edges: Vec<Edge>,
-    pub node_names: Vec<String>,
-    pub width: usize,
-    pub cells: Vec<u16>,
 }
 
-impl Draft {
-    pub(crate) fn new(heap: Global) -> Draft {
-        Draft {
-            stated: Stated::Table,
+impl TableDraft {
+    fn new(heap: Global) -> TableDraft {
+        TableDraft {
             safe: Vec::new(heap),
             arcs: Vec::new(heap),
             names: Names::new(heap),
-            nodes: Vec::new(heap),
-            edges: Vec::new(heap),
-            node_names: Vec::new(heap),
-            width: 0,
-            cells: Vec::new(heap),
         }
-    }
-
-    pub(crate) fn begin_table(&mut self) {
-        self.stated = Stated::Table;
-        self.safe.clear();
-        self.arcs.clear();
-        self.names.rows.clear();
-        self.names.choices.clear();
-    }
-
-    pub(crate) fn begin_drawing(&mut self) {
-        self.stated = Stated::Drawing;
-        self.nodes.clear();
-        self.edges.clear();
-        self.node_names.clear();
     }
 
     pub(crate) fn add_row(
         &mut self,
         heap: Global,
         safe: bool,
-        name: &str,
+        name: Option<&str>,
     ) -> Result<(), AllocError> {
-        self.names.rows.push(String::from_str(heap, name)?)?;
+        self.names.rows.push(owned(heap, name)?)?;
         self.safe.push(safe)?;
-        Ok(())
-    }
-
-    pub(crate) fn add_node(
-        &mut self,
-        heap: Global,
-        node: Node,
-        name: &str,
-    ) -> Result<(), AllocError> {
-        self.node_names.push(String::from_str(heap, name)?)?;
-        self.nodes.push(node)?;
         Ok(())
     }
 
@@ -85,23 +47,60 @@ impl Draft {
         &mut self,
         heap: Global,
         choice: usize,
-        name: &str,
+        name: Option<&str>,
     ) -> Result<(), AllocError> {
-        self.names
-            .choices
-            .push((choice, String::from_str(heap, name)?))?;
-        Ok(())
+        self.names.name_choice(choice, owned(heap, name)?)
+    }
+
+    pub(crate) fn examine(&self) -> Result<(), TableFault> {
+        table::examine(&self.safe, &self.arcs)
+    }
+
+    /// The table as it is written, or the blank one.
+    pub(crate) fn table(&self) -> Result<Table, AllocError> {
+        Ok(Table::new(self.safe.clone()?, self.arcs.clone()?))
     }
 
     // The names as they are written. The blank table, which stands for a faulty one, has none.
     fn table_names(&self, heap: Global) -> Result<Names, AllocError> {
-        match table::examine(&self.safe, &self.arcs) {
-            Ok(()) => Ok(Names {
-                rows: self.names.rows.clone()?,
-                choices: self.names.choices.clone()?,
-            }),
+        match self.examine() {
+            Ok(()) => self.names.clone(),
             Err(_) => Ok(Names::new(heap)),
         }
+    }
+}
+
+/// A drawing, as far as it is written.
+#[derive(Clone, Drop)]
+pub(crate) struct DrawingDraft {
+    pub nodes: Vec<Node>,
+    pub edges: Vec<Edge>,
+    /// The name of each node. A list of its own, since `draw` takes a slice of nodes.
+    pub names: Vec<Option<String>>,
+}
+
+impl DrawingDraft {
+    fn new(heap: Global) -> DrawingDraft {
+        DrawingDraft {
+            nodes: Vec::new(heap),
+            edges: Vec::new(heap),
+            names: Vec::new(heap),
+        }
+    }
+
+    pub(crate) fn add_node(
+        &mut self,
+        heap: Global,
+        node: Node,
+        name: Option<&str>,
+    ) -> Result<(), AllocError> {
+        self.names.push(owned(heap, name)?)?;
+        self.nodes.push(node)?;
+        Ok(())
+    }
+
+    pub(crate) fn examine(&self) -> Result<(), DrawingFault> {
+        token_tables::examine(&self.nodes, &self.edges)
     }
 
     /// The drawing as it is written, or the blank one.
@@ -109,61 +108,114 @@ impl Draft {
         draw(&self.nodes, &self.edges)
     }
 
-    // The drawing with its tables and names. The blank drawing, which stands for a faulty one, has none.
+    // The drawing with what is written of it. The blank drawing, which stands for a faulty one, has nothing written.
     fn sheet(&self, heap: Global) -> Result<Sheet, AllocError> {
-        let drawing = self.drawing();
-        match token_tables::examine(&self.nodes, &self.edges) {
-            Ok(()) => Ok(Sheet {
-                drawing,
-                nodes: Vec::from_slice(heap, &self.nodes)?,
-                edges: Vec::from_slice(heap, &self.edges)?,
-                names: self.node_names.clone()?,
-            }),
-            Err(_) => Ok(Sheet {
-                drawing,
-                nodes: Vec::new(heap),
-                edges: Vec::new(heap),
-                names: Vec::new(heap),
-            }),
-        }
-    }
-
-    /// By what the procedure is told in words.
-    pub(crate) fn telling(&self, heap: Global) -> Result<Telling, AllocError> {
-        match self.stated {
-            Stated::Table => Ok(Telling::Written(self.table_names(heap)?)),
-            Stated::Drawing => Ok(Telling::Drawn(self.sheet(heap)?)),
-        }
-    }
-
-    /// The table as it is written, or the blank one.
-    pub(crate) fn table(&self, heap: Global) -> Result<Table, AllocError> {
-        Ok(Table::new(
-            Vec::from_slice(heap, &self.safe)?,
-            Vec::from_slice(heap, &self.arcs)?,
-        ))
-    }
-
-    /// The table or the drawing, whichever was begun last.
-    pub(crate) fn procedure(&self, heap: Global) -> Result<Procedure, AllocError> {
-        match self.stated {
-            Stated::Table => Ok(Procedure::Written(self.table(heap)?)),
-            Stated::Drawing => Ok(Procedure::Drawn(self.drawing())),
-        }
+        let written = match self.examine() {
+            Ok(()) => self.clone()?,
+            Err(_) => DrawingDraft::new(heap),
+        };
+        Ok(Sheet {
+            drawing: self.drawing(),
+            written,
+        })
     }
 }
 
-/// The cells of a line, or the word that is none.
-pub(crate) fn cells_of<'a>(
-    heap: Global,
-    text: &'a str,
-) -> Result<Result<Vec<u16>, Misread<'a>>, AllocError> {
-    let mut cells = Vec::new(heap);
-    for word in text.split_whitespace() {
-        match word.parse::<u16>() {
-            Ok(cell) => cells.push(cell)?,
-            Err(_) => return Ok(Err(Misread::NotANumber { word, most: 65535 })),
+/// A listing, as far as it is written.
+#[derive(Drop)]
+pub(crate) struct Listing {
+    pub width: usize,
+    pub cells: Vec<u16>,
+}
+
+impl Listing {
+    fn new(heap: Global, width: usize) -> Listing {
+        Listing {
+            width,
+            cells: Vec::new(heap),
         }
     }
-    Ok(Ok(cells))
+
+    pub(crate) fn examine(&self) -> Result<usize, ListingFault> {
+        book::examine(&self.cells, self.width)
+    }
+
+    /// The book as it is written, or the blank one.
+    pub(crate) fn book(&self) -> ListedBook<'_> {
+        ListedBook::new(&self.cells, self.width)
+    }
+}
+
+/// Which of the two was begun last, and is run.
+#[derive(Clone, Copy)]
+enum Stated {
+    Table,
+    Drawing,
+}
+
+/// A table, a drawing and a listing, as far as they are written.
+#[derive(Drop)]
+pub(crate) struct Draft {
+    stated: Stated,
+    pub table: TableDraft,
+    pub drawing: DrawingDraft,
+    pub listing: Listing,
+}
+
+impl Draft {
+    pub(crate) fn new(heap: Global) -> Draft {
+        Draft {
+            stated: Stated::Table,
+            table: TableDraft::new(heap),
+            drawing: DrawingDraft::new(heap),
+            listing: Listing::new(heap, 0),
+        }
+    }
+
+    pub(crate) fn begin_table(&mut self, heap: Global) {
+        self.stated = Stated::Table;
+        self.table = TableDraft::new(heap);
+    }
+
+    pub(crate) fn begin_drawing(&mut self, heap: Global) {
+        self.stated = Stated::Drawing;
+        self.drawing = DrawingDraft::new(heap);
+    }
+
+    pub(crate) fn begin_book(&mut self, heap: Global, width: usize) {
+        self.listing = Listing::new(heap, width);
+    }
+
+    // By what the procedure is told in words.
+    fn telling(&self, heap: Global) -> Result<Telling, AllocError> {
+        match self.stated {
+            Stated::Table => self.table.table_names(heap).map(Telling::Written),
+            Stated::Drawing => self.drawing.sheet(heap).map(Telling::Drawn),
+        }
+    }
+
+    /// The table or the drawing, whichever was begun last.
+    pub(crate) fn procedure(&self) -> Result<Procedure, AllocError> {
+        match self.stated {
+            Stated::Table => self.table.table().map(Procedure::Written),
+            Stated::Drawing => Ok(Procedure::Drawn(self.drawing.drawing())),
+        }
+    }
+
+    /// What is known of the procedure.
+    pub(crate) fn facts(&self, heap: Global, process: &Procedure) -> Result<Facts, AllocError> {
+        Ok(Facts {
+            width: process.width(),
+            choices: process.choices(),
+            telling: self.telling(heap)?,
+        })
+    }
+
+    /// The choice that stands for the act, if a drawing was begun last and has the act.
+    pub(crate) fn choice(&self, act: Act) -> Option<usize> {
+        match self.stated {
+            Stated::Table => None,
+            Stated::Drawing => self.drawing.drawing().choice(act),
+        }
+    }
 }

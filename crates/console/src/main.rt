@@ -3,11 +3,13 @@
 
 mod command;
 mod draft;
+mod printer;
 mod procedure;
 mod say;
 mod session;
 mod telling;
 
+use printer::Printer;
 use session::Session;
 use std::io::{BufRead, BufReader};
 use std::str;
@@ -18,14 +20,15 @@ fn run_script(rt: &HostRuntime) -> anyhow::Result<()> {
     let mut session = Session::new(heap);
     let mut bytes: Vec<u8> = Vec::new(heap);
     for line in 1..usize::MAX {
+        let printer = Printer { rt, line };
         bytes.clear();
         if input.read_until(b'\n', &mut bytes)? == 0 {
-            session.finish(rt, line)?;
+            session.finish(printer)?;
             break;
         }
         match str::from_utf8(&bytes) {
-            Ok(text) => session.step(rt, line, text)?,
-            Err(_) => println!(rt; "{line}: bad; the line is no text")?,
+            Ok(text) => session.step(printer, text)?,
+            Err(_) => printer.bad("the line is no text")?,
         }
     }
     Ok(())

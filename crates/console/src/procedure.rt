@@ -1,7 +1,7 @@
 //! What a script states: a written table or a token drawing, and either as a process.
 ghost use Rattle.console.specs.Procedures.{procedure_means, lawful_procedure, within_procedure};
 
-use process::{Limits, Process, Refusal};
+use process::{Process, Refusal};
 use table::Table;
 use token::TokenDrawing;
 
@@ -12,24 +12,19 @@ pub(crate) enum Procedure {
 }
 
 impl Process for Procedure {
+    ghost WIDEST = { 257 };
+
     const WIDEST: usize = 257;
+
+    ghost MOST_CHOICES = { 4096 };
 
     const MOST_CHOICES: usize = 4096;
 
     ghost meaning = { procedure_means };
 
-    ghost bounds = { record { widest = 257; most_choices = 4096 } };
-
     ghost lawful = { lawful_procedure };
 
     ghost within = { within_procedure };
-
-    fn limits() -> Limits {
-        Limits {
-            widest: Self::WIDEST,
-            most_choices: Self::MOST_CHOICES,
-        }
-    }
 
     fn width(&self) -> usize {
         match self {

@@ -1,11 +1,8 @@
 //! Answers in words.
-use crate::telling::{Sheet, Telling};
-use inspect::Fault;
+use crate::telling::{Facts, Sheet, Telling};
 use process::Refusal;
 use std::fmt;
-use table::TableFault;
 use token::{Act, Place};
-use token_tables::{DrawingFault, Mode};
 
 /// A row, by its cells.
 #[derive(Clone, Copy)]
@@ -25,92 +22,133 @@ impl fmt::Display for Cells<'_> {
 #[derive(Clone, Copy)]
 pub(crate) struct NodeName<'a> {
     pub node: usize,
-    pub name: &'a str,
+    pub name: Option<&'a str>,
 }
 
 impl fmt::Display for NodeName<'_> {
     fn fmt<W: fmt::Write>(&self, f: &mut fmt::Formatter<W>) -> fmt::Result {
         let node = self.node;
-        let name = self.name;
-        if name.is_empty() {
-            write!(f, "node {node}")
-        } else {
-            write!(f, "{node} {name}")
+        match self.name {
+            Some(name) => write!(f, "{node} {name}"),
+            None => write!(f, "node {node}"),
         }
     }
+}
+
+/// The node to which an edge leads, if the drawing has the edge.
+#[derive(Clone, Copy)]
+pub(crate) struct Target<'a>(pub Option<NodeName<'a>>);
+
+impl fmt::Display for Target<'_> {
+    fn fmt<W: fmt::Write>(&self, f: &mut fmt::Formatter<W>) -> fmt::Result {
+        match self.0 {
+            Some(name) => write!(f, "{name}"),
+            None => write!(f, "no node"),
+        }
+    }
+}
+
+/// Until when a node waits, or how long.
+#[derive(Clone, Copy)]
+pub(crate) enum Timer {
+    Until { day: u16 },
+    Units { clock: u16, length: u16 },
 }
 
 /// How long a marked node is yet to wait.
 #[derive(Clone, Copy)]
 pub(crate) struct Waiting {
-    pub mode: Mode,
-    pub amount: u16,
-    pub clock: u16,
+    pub timer: Timer,
     pub due: bool,
 }
 
 impl fmt::Display for Waiting {
     fn fmt<W: fmt::Write>(&self, f: &mut fmt::Formatter<W>) -> fmt::Result {
-        let amount = self.amount;
-        let clock = self.clock;
         let due = if self.due { ", due" } else { "" };
-        match self.mode {
-            Mode::At => write!(f, " (until day {amount}{due})"),
-            Mode::After => write!(f, " ({clock} of {amount} units{due})"),
-            Mode::Untimed | Mode::Other(_) => Ok(()),
+        match self.timer {
+            Timer::Until { day } => write!(f, "until day {day}{due}"),
+            Timer::Units { clock, length } => write!(f, "{clock} of {length} units{due}"),
         }
     }
 }
 
 /// What a cell of a row of a drawing says.
 #[derive(Clone, Copy)]
-pub(crate) struct Part<'a> {
-    pub sheet: &'a Sheet,
-    pub cells: &'a [u16],
-    pub place: Place,
-    pub value: u16,
+enum Part<'a> {
+    Mark {
+        name: NodeName<'a>,
+        twice: bool,
+        waiting: Option<Waiting>,
+    },
+    Flow {
+        edge: usize,
+        target: Target<'a>,
+    },
+    Day(u16),
 }
 
-impl fmt::Display for Part<'_> {
-    fn fmt<W: fmt::Write>(&self, f: &mut fmt::Formatter<W>) -> fmt::Result {
-        let value = self.value;
-        let sheet = self.sheet;
-        let marks = if value > 1 { "twice at " } else { "at " };
-        match self.place {
-            Place::Mark { node } => {
-                let (mode, amount) = sheet.timer(node);
-                let name = NodeName {
-                    node,
-                    name: sheet.name(node),
-                };
-                let waiting = Waiting {
-                    mode,
-                    amount,
-                    clock: sheet.clock(node, self.cells),
-                    due: sheet.drawing.is_due(self.cells, node),
-                };
-                write!(f, "{marks}{name}{waiting}")
-            }
-            Place::Clock { node } => write!(f, "clock {node} at {value}"),
-            Place::Flow { edge } => {
-                let node = sheet.target(edge);
-                let name = NodeName {
-                    node,
-                    name: sheet.name(node),
-                };
-                write!(f, "on edge {edge} to {name}")
-            }
-            Place::Day => write!(f, "day {value}"),
+impl<'a> Part<'a> {
+    // What is told of a cell, if anything is.
+    fn of(sheet: &'a Sheet, cells: &[u16], cell: usize, value: u16) -> Option<Part<'a>> {
+        if value == 0 {
+            return None;
+        }
+        match sheet.drawing.place(cell)? {
+            Place::Mark { node } => Some(Part::Mark {
+                name: sheet.node(node),
+                twice: value > 1,
+                waiting: sheet.waiting(node, cells),
+            }),
+            // A clock is told with its node.
+            Place::Clock { .. } => None,
+            Place::Flow { edge } => Some(Part::Flow {
+                edge,
+                target: sheet.target(edge),
+            }),
+            Place::Day => Some(Part::Day(value)),
         }
     }
 }
 
-// Whether a cell is told: a clock is told with its node.
-fn is_told(place: Place, value: u16) -> bool {
-    match place {
-        Place::Clock { .. } => false,
-        Place::Mark { .. } | Place::Flow { .. } | Place::Day => value > 0,
+impl fmt::Display for Part<'_> {
+    fn fmt<W: fmt::Write>(&self, f: &mut fmt::Formatter<W>) -> fmt::Result {
+        match self {
+            Part::Mark {
+                name,
+                twice,
+                waiting,
+            } => {
+                let marks = if *twice { "twice at" } else { "at" };
+                write!(f, "{marks} {name}")?;
+                match waiting {
+                    Some(waiting) => write!(f, " ({waiting})"),
+                    None => Ok(()),
+                }
+            }
+            Part::Flow { edge, target } => write!(f, "on edge {edge} to {target}"),
+            Part::Day(day) => write!(f, "day {day}"),
+        }
     }
+}
+
+// What stands at the row of a drawing.
+fn write_parts<W: fmt::Write>(
+    f: &mut fmt::Formatter<W>,
+    sheet: &Sheet,
+    cells: &[u16],
+) -> fmt::Result {
+    let mut parts = cells
+        .iter()
+        .enumerate()
+        .filter_map(|(cell, &value)| Part::of(sheet, cells, cell, value));
+    let Some(first) = parts.next() else {
+        return write!(f, "nothing is marked");
+    };
+    write!(f, "{first}")?;
+    for part in parts {
+        write!(f, ", {part}")?;
+    }
+    Ok(())
 }
 
 /// Where a procedure stands.
@@ -120,44 +158,11 @@ pub(crate) struct RowWords<'a> {
     pub cells: &'a [u16],
 }
 
-// What stands at the row of a drawing.
-fn write_parts<'a, W: fmt::Write>(
-    f: &mut fmt::Formatter<W>,
-    sheet: &'a Sheet,
-    cells: &'a [u16],
-) -> fmt::Result {
-    let mut told = false;
-    for (cell, value) in cells.iter().enumerate() {
-        if let Some(place) = sheet.drawing.place(cell) {
-            if is_told(place, *value) {
-                let part = Part {
-                    sheet,
-                    cells,
-                    place,
-                    value: *value,
-                };
-                let between = if told { ", " } else { "" };
-                write!(f, "{between}{part}")?;
-                told = true;
-            }
-        }
-    }
-    if !told {
-        write!(f, "nothing is marked")?;
-    }
-    Ok(())
-}
-
 impl fmt::Display for RowWords<'_> {
     fn fmt<W: fmt::Write>(&self, f: &mut fmt::Formatter<W>) -> fmt::Result {
         match self.telling {
             Telling::Written(names) => {
-                let name = names.row(self.cells);
-                if name.is_empty() {
-                    write!(f, "a row without a name")
-                } else {
-                    write!(f, "{name}")
-                }
+                f.write_str(names.row(self.cells).unwrap_or("a row without a name"))
             }
             Telling::Drawn(sheet) => write_parts(f, sheet, self.cells),
         }
@@ -166,9 +171,9 @@ impl fmt::Display for RowWords<'_> {
 
 /// An act in a drawing.
 #[derive(Clone, Copy)]
-pub(crate) struct ActWords<'a> {
-    pub sheet: &'a Sheet,
-    pub act: Act,
+struct ActWords<'a> {
+    sheet: &'a Sheet,
+    act: Act,
 }
 
 impl fmt::Display for ActWords<'_> {
@@ -176,29 +181,9 @@ impl fmt::Display for ActWords<'_> {
         let sheet = self.sheet;
         match self.act {
             Act::Pass => write!(f, "a unit passes"),
-            Act::Complete { node } => {
-                let name = NodeName {
-                    node,
-                    name: sheet.name(node),
-                };
-                write!(f, "complete {name}")
-            }
-            Act::Enter { edge } => {
-                let node = sheet.target(edge);
-                let name = NodeName {
-                    node,
-                    name: sheet.name(node),
-                };
-                write!(f, "over edge {edge} into {name}")
-            }
-            Act::Choose { edge } => {
-                let node = sheet.target(edge);
-                let name = NodeName {
-                    node,
-                    name: sheet.name(node),
-                };
-                write!(f, "choose edge {edge} to {name}")
-            }
+            Act::Complete { node } => write!(f, "complete {}", sheet.node(node)),
+            Act::Enter { edge } => write!(f, "over edge {edge} into {}", sheet.target(edge)),
+            Act::Choose { edge } => write!(f, "choose edge {edge} to {}", sheet.target(edge)),
         }
     }
 }
@@ -214,14 +199,10 @@ impl fmt::Display for ChoiceWords<'_> {
     fn fmt<W: fmt::Write>(&self, f: &mut fmt::Formatter<W>) -> fmt::Result {
         let choice = self.choice;
         match self.telling {
-            Telling::Written(names) => {
-                let name = names.choice(choice);
-                if name.is_empty() {
-                    write!(f, "choice {choice}")
-                } else {
-                    write!(f, "{name}")
-                }
-            }
+            Telling::Written(names) => match names.choice(choice) {
+                Some(name) => write!(f, "{name}"),
+                None => write!(f, "choice {choice}"),
+            },
             Telling::Drawn(sheet) => match sheet.drawing.act(choice) {
                 Some(act) => write!(f, "{}", ActWords { sheet, act }),
                 None => write!(f, "choice {choice}"),
@@ -231,26 +212,22 @@ impl fmt::Display for ChoiceWords<'_> {
 }
 
 /// The choices that are open, each with its words; nothing for a table.
-#[derive(Clone, Copy)]
+#[derive(Drop)]
 pub(crate) struct OpenWords<'a> {
     pub telling: &'a Telling,
-    pub open: &'a [usize],
+    pub open: Option<Vec<usize>>,
 }
 
 impl fmt::Display for OpenWords<'_> {
     fn fmt<W: fmt::Write>(&self, f: &mut fmt::Formatter<W>) -> fmt::Result {
-        if let Telling::Written(_) = self.telling {
+        let Some(open) = &self.open else {
             return Ok(());
-        }
+        };
         write!(f, "; open:")?;
-        for choice in self.open {
-            let words = ChoiceWords {
-                telling: self.telling,
-                choice: *choice,
-            };
-            write!(f, " [{choice}] {words}")?;
+        for &choice in open.iter() {
+            write!(f, " [{choice}] {}", self.telling.choice(choice))?;
         }
-        if self.open.is_empty() {
+        if open.is_empty() {
             write!(f, " nothing")?;
         }
         Ok(())
@@ -259,18 +236,17 @@ impl fmt::Display for OpenWords<'_> {
 
 /// Why a call is refused.
 #[derive(Clone, Copy)]
-pub(crate) struct Why {
+pub(crate) struct Why<'a> {
     pub refusal: Refusal,
     pub length: usize,
-    pub width: usize,
-    pub choices: usize,
+    pub facts: &'a Facts,
 }
 
-impl fmt::Display for Why {
+impl fmt::Display for Why<'_> {
     fn fmt<W: fmt::Write>(&self, f: &mut fmt::Formatter<W>) -> fmt::Result {
         let length = self.length;
-        let width = self.width;
-        let last = self.choices.saturating_sub(1);
+        let width = self.facts.width;
+        let last = self.facts.choices.saturating_sub(1);
         match self.refusal {
             Refusal::WrongLength => write!(
                 f,
@@ -278,73 +254,6 @@ impl fmt::Display for Why {
             ),
             Refusal::NoSuchChoice => write!(f, "there is no such choice; the last one is {last}"),
             Refusal::NotAllowed => write!(f, "not allowed at this row"),
-        }
-    }
-}
-
-/// What a fault of a book is.
-#[derive(Clone, Copy)]
-pub(crate) struct FaultWords(pub Fault);
-
-impl fmt::Display for FaultWords {
-    fn fmt<W: fmt::Write>(&self, f: &mut fmt::Formatter<W>) -> fmt::Result {
-        match self.0 {
-            Fault::WidthDiffers => write!(
-                f,
-                "the book's rows are not as wide as those of the process"
-            ),
-            Fault::StartNotHeld => write!(f, "the book does not hold the start row"),
-            Fault::UnsafeRow => write!(f, "this row of the book is not safe"),
-            Fault::LeadsOut => write!(
-                f,
-                "this choice leads from this row to a row that the book does not hold"
-            ),
-        }
-    }
-}
-
-/// What a fault of a table is.
-#[derive(Clone, Copy)]
-pub(crate) struct TableWords(pub TableFault);
-
-impl fmt::Display for TableWords {
-    fn fmt<W: fmt::Write>(&self, f: &mut fmt::Formatter<W>) -> fmt::Result {
-        match self.0 {
-            TableFault::Size => write!(f, "a table has 1 to 4096 rows and at most 16384 arcs"),
-            TableFault::Choice { arc } => write!(f, "the choice of arc {arc} is above 4095"),
-            TableFault::End { arc } => write!(
-                f,
-                "arc {arc} leads from or to a row that the table does not have"
-            ),
-        }
-    }
-}
-
-/// What a fault of a drawing is.
-#[derive(Clone, Copy)]
-pub(crate) struct DrawingWords(pub DrawingFault);
-
-impl fmt::Display for DrawingWords {
-    fn fmt<W: fmt::Write>(&self, f: &mut fmt::Formatter<W>) -> fmt::Result {
-        match self.0 {
-            DrawingFault::Size => write!(f, "a drawing has 1 to 64 nodes and at most 128 edges"),
-            DrawingFault::Range { node } => write!(
-                f,
-                "the kind, the mode or the amount of node {node} is out of range; see docs/token-drawings.md"
-            ),
-            DrawingFault::Host { node } => write!(
-                f,
-                "the host of node {node} does not fit: a boundary's is a task, any other is 0"
-            ),
-            DrawingFault::End { edge } => write!(
-                f,
-                "edge {edge} leads from or to a node that the drawing does not have"
-            ),
-            DrawingFault::Edges { node } => write!(
-                f,
-                "node {node} has too many or too few edges into it or out of it; see docs/token-drawings.md"
-            ),
-            DrawingFault::NoStart => write!(f, "no node is a start"),
         }
     }
 }

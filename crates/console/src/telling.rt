@@ -1,85 +1,92 @@
 //! What a person is told of a procedure.
-use std::alloc::Global;
+use crate::draft::DrawingDraft;
+use crate::say::{ChoiceWords, NodeName, RowWords, Target, Timer, Waiting};
+use std::alloc::{AllocError, Global};
+use std::collections::BTreeMap;
 use token::TokenDrawing;
-use token_tables::{Edge, Mode, Node};
+use token_tables::{Mode, Node};
 
 /// Names of the rows and choices of a table.
-#[derive(Drop)]
+#[derive(Clone, Drop)]
 pub(crate) struct Names {
-    pub rows: Vec<String>,
-    pub choices: Vec<(usize, String)>,
+    pub rows: Vec<Option<String>>,
+    pub choices: BTreeMap<usize, Option<String>>,
 }
 
 impl Names {
     pub(crate) fn new(heap: Global) -> Names {
         Names {
             rows: Vec::new(heap),
-            choices: Vec::new(heap),
+            choices: BTreeMap::new(heap),
         }
     }
 
-    /// The name of the row, or nothing.
-    pub(crate) fn row(&self, cells: &[u16]) -> &str {
-        if cells.len() != 1 {
-            return "";
-        }
-        match self.rows.get(cells[0] as usize) {
-            Some(name) => name.as_str(),
-            None => "",
-        }
+    /// Names a choice, unless an earlier line did.
+    pub(crate) fn name_choice(
+        &mut self,
+        choice: usize,
+        name: Option<String>,
+    ) -> Result<(), AllocError> {
+        self.choices.entry(choice)?.or_insert(name);
+        Ok(())
     }
 
-    /// The name of the choice, or nothing.
-    pub(crate) fn choice(&self, choice: usize) -> &str {
-        for (number, name) in self.choices.iter() {
-            if *number == choice {
-                return name.as_str();
-            }
-        }
-        ""
+    pub(crate) fn row(&self, cells: &[u16]) -> Option<&str> {
+        let [cell] = cells else { return None };
+        self.rows.get(usize::from(*cell))?.as_deref()
+    }
+
+    pub(crate) fn choice(&self, choice: usize) -> Option<&str> {
+        self.choices.get(&choice)?.as_deref()
     }
 }
 
-/// A drawing with its tables and the names of its nodes.
+/// A drawing with what is written of it.
 #[derive(Drop)]
 pub(crate) struct Sheet {
     pub drawing: TokenDrawing,
-    pub nodes: Vec<Node>,
-    pub edges: Vec<Edge>,
-    pub names: Vec<String>,
+    pub written: DrawingDraft,
 }
 
 impl Sheet {
-    /// The name of the node, or nothing.
-    pub(crate) fn name(&self, node: usize) -> &str {
-        match self.names.get(node) {
-            Some(name) => name.as_str(),
-            None => "",
+    fn name(&self, node: usize) -> Option<&str> {
+        self.written.names.get(node)?.as_deref()
+    }
+
+    pub(crate) fn node(&self, node: usize) -> NodeName<'_> {
+        NodeName {
+            node,
+            name: self.name(node),
         }
     }
 
     /// The node to which the edge leads.
-    pub(crate) fn target(&self, edge: usize) -> usize {
-        match self.edges.get(edge) {
-            Some(found) => found.target as usize,
-            None => 0,
-        }
+    pub(crate) fn target(&self, edge: usize) -> Target<'_> {
+        let edge = self.written.edges.get(edge);
+        Target(edge.map(|edge| self.node(usize::from(edge.target))))
     }
 
-    /// By what the node is timed, and its date or length.
-    pub(crate) fn timer(&self, node: usize) -> (Mode, u16) {
-        match self.nodes.get(node) {
-            Some(found) => (found.mode, found.amount),
-            None => (Mode::Untimed, 0),
-        }
+    // What the clock of the node shows at this row.
+    fn clock(&self, node: usize, cells: &[u16]) -> Option<u16> {
+        let cell = self.written.nodes.len().checked_add(node)?;
+        cells.get(cell).copied()
     }
 
-    /// What the clock of the node shows at this row.
-    pub(crate) fn clock(&self, node: usize, cells: &[u16]) -> u16 {
-        match cells.get(self.nodes.len().saturating_add(node)) {
-            Some(clock) => *clock,
-            None => 0,
-        }
+    /// How long the marked node is yet to wait, if it is timed.
+    pub(crate) fn waiting(&self, node: usize, cells: &[u16]) -> Option<Waiting> {
+        let Node { mode, amount, .. } = *self.written.nodes.get(node)?;
+        let timer = match mode {
+            Mode::At => Timer::Until { day: amount },
+            Mode::After => Timer::Units {
+                clock: self.clock(node, cells)?,
+                length: amount,
+            },
+            Mode::Untimed | Mode::Other(_) => return None,
+        };
+        Some(Waiting {
+            timer,
+            due: self.drawing.is_due(cells, node),
+        })
     }
 }
 
@@ -88,4 +95,36 @@ impl Sheet {
 pub(crate) enum Telling {
     Written(Names),
     Drawn(Sheet),
+}
+
+impl Telling {
+    /// The drawing, if it is of one.
+    pub(crate) fn drawing(&self) -> Option<&TokenDrawing> {
+        match self {
+            Telling::Written(_) => None,
+            Telling::Drawn(sheet) => Some(&sheet.drawing),
+        }
+    }
+
+    pub(crate) fn row<'a>(&'a self, cells: &'a [u16]) -> RowWords<'a> {
+        RowWords {
+            telling: self,
+            cells,
+        }
+    }
+
+    pub(crate) fn choice(&self, choice: usize) -> ChoiceWords<'_> {
+        ChoiceWords {
+            telling: self,
+            choice,
+        }
+    }
+}
+
+/// What is known of a process.
+#[derive(Drop)]
+pub(crate) struct Facts {
+    pub width: usize,
+    pub choices: usize,
+    pub telling: Telling,
 }
