@@ -146,7 +146,7 @@ impl Listing {
     }
 }
 
-/// Which of the two was begun last, and is run.
+/// Which of the two was begun last, and is run. Both are kept, since each can be examined.
 #[derive(Clone, Copy)]
 enum Stated {
     Table,

@@ -11,6 +11,7 @@ pub(crate) enum Procedure {
     Drawn(TokenDrawing),
 }
 
+// Each answer is that of the kind at hand: a `dyn Process` would need a trait without constants.
 impl Process for Procedure {
     ghost WIDEST = { 257 };
 

@@ -30,7 +30,7 @@ fn hold<P: Process + Drop, B: Book>(
     book: &B,
     exchanges: &mut [Exchange],
 ) -> Rehearsal<P>
-    ensures same { result.run.process ≡ process }
+    ensures same { result.run.ended.process ≡ process }
     ensures verdict { told result.verdict ≡ verdict (P.meaning process) (B.listing book.now) }
     ensures entries { map entry_of exchanges.new ≡ all_made (P.meaning process) (opened (P.meaning process)) (map entry_of exchanges.old) }
     ensures stand { closed_stands result.run ≡ stand_all_made (P.meaning process) (opened (P.meaning process)) (map entry_of exchanges.old) }
@@ -47,7 +47,7 @@ pub fn rehearse<P: Process + Drop, B: Book>(
     book: &B,
     exchanges: &mut [Exchange],
 ) -> Rehearsal<P>
-    ensures same { result.run.process ≡ process }
+    ensures same { result.run.ended.process ≡ process }
     ensures law { Law (P.meaning process) (B.listing book.now) (told result.verdict) (map entry_of exchanges.old) (map entry_of exchanges.new) (closed_stands result.run) }
 {
     law(&process, book);

@@ -14,4 +14,4 @@ module _ {P : Type 0} {p : Ghosts P} where
   stands r = stand_of r.standing
 
   abbrev pub closed_stands : ClosedRun P p → Stand
-  closed_stands r = stand_of r.standing
+  closed_stands c = stands c.ended

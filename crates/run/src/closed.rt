@@ -1,16 +1,35 @@
 //! Closed runs.
-ghost use Rattle.process.specs.Meaning.{Reachable};
-ghost use Rattle.run.specs.Standing.{stand_of};
+ghost use Rattle.std.specs.Prelude.{◌≡◌};
+ghost use Rattle.run.specs.Runs.{closed_stands};
 
-use crate::standing::Standing;
+use crate::run::Run;
 use process::Process;
 
-mod reading;
-
-/// A run that has ended, at a row that can be reached. It can only be read.
+/// A run that has ended. It can only be read.
 #[derive(Drop)]
 pub struct ClosedRun<P: Process> {
-    pub(crate) process: P,
-    pub(crate) standing: Standing,
-    ghost reached: { ∥ Reachable (P.meaning process) (stand_of standing).row ∥₁ },
+    pub(crate) ended: Run<P>,
+}
+
+impl<P: Process> ClosedRun<P> {
+    /// The row at which the run ended.
+    pub fn row(&self) -> &[u16]
+        ensures { result.now ≡ (closed_stands self.now).row }
+    {
+        self.ended.standing.row()
+    }
+
+    /// How many presses moved the run, up to 4,294,967,295.
+    pub fn moved(&self) -> u32
+        ensures { result ≡ (closed_stands self.now).moved }
+    {
+        self.ended.standing.moved
+    }
+
+    /// How many presses were refused by 21 or 22, up to 4,294,967,295.
+    pub fn refused(&self) -> u32
+        ensures { result ≡ (closed_stands self.now).refused }
+    {
+        self.ended.standing.refused
+    }
 }

@@ -10,6 +10,8 @@ use crate::exchange::{Call, Exchange, Reply};
 use crate::run::Run;
 use process::{Process, Refusal};
 
+// Makes the call with this buffer.
+// That the process stays is said of each call: it is a fact of two states of a run, which no type can hold.
 fn answer<P: Process>(run: &mut Run<P>, call: Call, out: &mut [u16]) -> Result<Reply, Refusal>
     ensures same { run.new.process ≡ run.old.process }
     ensures answer { told result ≡ answer_to (means run.old) (stands run.old) out.old call }
@@ -54,7 +56,7 @@ fn make_all<P: Process>(run: &mut Run<P>, exchanges: &mut [Exchange])
 
 /// A whole run of the process: opens it, makes the calls one after the other, each with its own buffer, and closes it.
 pub fn play<P: Process>(process: P, exchanges: &mut [Exchange]) -> ClosedRun<P>
-    ensures same { result.process ≡ process }
+    ensures same { result.ended.process ≡ process }
     ensures entries { map entry_of exchanges.new ≡ all_made (P.meaning process) (opened (P.meaning process)) (map entry_of exchanges.old) }
     ensures stand { closed_stands result ≡ stand_all_made (P.meaning process) (opened (P.meaning process)) (map entry_of exchanges.old) }
 {

@@ -11,6 +11,6 @@ mod calls;
 #[derive(Drop)]
 pub struct Run<P: Process> {
     process: P,
-    standing: Standing,
+    pub(crate) standing: Standing,
     ghost reached: { ∥ Reachable (P.meaning process) (stand_of standing).row ∥₁ },
 }

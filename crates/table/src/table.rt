@@ -10,7 +10,8 @@ mod making;
 pub(crate) mod playing;
 mod reading;
 
-/// The rows, each safe or not, the arcs between them, and the number of choices.
+/// The rows, each safe or not, the arcs between them, and the number of choices, which is kept so that no answer looks
+/// through the arcs for it.
 #[derive(Drop)]
 pub struct Table {
     safe: Vec<bool>,

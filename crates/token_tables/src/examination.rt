@@ -153,7 +153,8 @@ fn first_fault(nodes: &[Node], edges: &[Edge]) -> Result<(), DrawingFault>
 }
 
 /// The first fault: the size; then each node by itself; then each edge; then each node by its edges; then the starts.
-/// There is none just if the tables are good.
+/// There is none just if the tables are good. The two lists are two arguments, since a caller has them so, and a pair would
+/// be made at each call only to be taken apart.
 pub fn examine(nodes: &[Node], edges: &[Edge]) -> Result<(), DrawingFault>
     ensures answer { told result ≡ examined nodes.now edges.now }
     ensures good { Decides (gave (told result)) (Good (record { nodes = nodes.now; edges = edges.now })) }

@@ -81,10 +81,9 @@ impl<P: Process> Run<P> {
 
     /// Ends the run.
     pub fn close(self) -> ClosedRun<P>
-        ensures same { result.process ≡ self.process }
+        ensures same { result.ended.process ≡ self.process }
         ensures stand { closed_stands result ≡ stands self }
     {
-        let Run { process, standing } = self;
-        ClosedRun { process, standing }
+        ClosedRun { ended: self }
     }
 }
