@@ -1,28 +1,29 @@
 //! What is wrong with a listing.
-ghost use Rattle.std.specs.Prelude.{◌≡◌};
 ghost use Rattle.book.specs.Faults.{number_of, place_of};
 
-/// Each has a number, which a console shows.
+use process::Numbered;
+
+/// The one fault of a listing, whatever is wrong of the three: they share the number and the place.
 #[derive(Clone, Copy, PartialEq, Eq, Debug)]
 pub enum ListingFault {
     /// The width is not 1 to 512, the last row is only a part, or there are more than 65,535 rows.
     Shape,
 }
 
-impl ListingFault {
+impl Numbered for ListingFault {
+    ghost number_of = { number_of };
+
+    ghost place_of = { place_of };
+
     /// 11.
-    pub fn number(self) -> u16
-        ensures { result ≡ number_of self }
-    {
+    fn number(&self) -> u16 {
         match self {
             ListingFault::Shape => 11,
         }
     }
 
-    /// Where the fault lies: the whole listing, told as 0.
-    pub fn place(self) -> usize
-        ensures { result ≡ place_of self }
-    {
+    /// The whole listing, told as 0.
+    fn place(&self) -> usize {
         match self {
             ListingFault::Shape => 0,
         }

@@ -1,8 +1,9 @@
 //! Why a row is not copied out of a book.
-ghost use Rattle.std.specs.Prelude.{◌≡◌};
 ghost use Rattle.book.specs.Refusals.{number_of, place_of};
 
-/// Each has a number, which a console shows.
+use process::Numbered;
+
+/// The refusals of a book.
 #[derive(Clone, Copy, PartialEq, Eq, Debug)]
 pub enum RowRefusal {
     /// The buffer has not the width of the book.
@@ -11,21 +12,21 @@ pub enum RowRefusal {
     NoSuchRow,
 }
 
-impl RowRefusal {
+impl Numbered for RowRefusal {
+    ghost number_of = { number_of };
+
+    ghost place_of = { place_of };
+
     /// 20 or 23.
-    pub fn number(self) -> u16
-        ensures { result ≡ number_of self }
-    {
+    fn number(&self) -> u16 {
         match self {
             RowRefusal::WrongLength => 20,
             RowRefusal::NoSuchRow => 23,
         }
     }
 
-    /// Where the fault lies: these refusals have no place, and give 0.
-    pub fn place(self) -> usize
-        ensures { result ≡ place_of self }
-    {
+    /// These refusals have no place.
+    fn place(&self) -> usize {
         match self {
             RowRefusal::WrongLength | RowRefusal::NoSuchRow => 0,
         }

@@ -1,12 +1,12 @@
 -- What a list of calls comes to, in the words of a history, and that it comes to nothing else.
 use Rattle.std.proofs.Common.{◌≡◌, ℕ, zero, suc, ◌+◌, ◌<◌, ◌≤◌, min, Bool, cond, List, [], ◌∷◌, ◌++◌, length, get_or, take, Some, None, sym, refl, ap, ◌∙◌, subst, arith, take-suc}
 use Rattle.std.proofs.lemmas.List.{take_all}
-use Rattle.process.specs.Meaning.{Meaning, Row, Lawful, at_start}
+use Rattle.process.specs.Meaning.{Meaning, Row, Lawful, at_start, Path, stay, step}
 use Rattle.process.proofs.Tries.{reach_row}
 use Rattle.run.specs.Standing.{Stand, opened}
 use Rattle.run.specs.Exchanges.{Entry, made, stand_made, all_made, stand_all_made}
 use Rattle.run.specs.declared.exchange.Call.TheVariants.{Look}
-use Rattle.engine.specs.Running.{Path, stay, step, Answered, has_moved, was_barred, moved_choices, how_many, Stood, Running}
+use Rattle.engine.specs.Running.{Answered, has_moved, was_barred, moved_choices, how_many, Stood, Running}
 use Rattle.engine.proofs.Paths.{path_join, path_reach, path_one}
 use Rattle.engine.proofs.Steps.{Step, still, barred, forward, call_step, made_answered, answers_one}
 

@@ -1,7 +1,6 @@
 -- Paths of choices.
 use Rattle.std.proofs.Common.{◌≡◌, ℕ, List, ◌∷◌, ◌++◌, Some, refl, subst}
-use Rattle.process.specs.Meaning.{Meaning, Row, Reachable, by_choice}
-use Rattle.engine.specs.Running.{Path, stay, step}
+use Rattle.process.specs.Meaning.{Meaning, Row, Reachable, by_choice, Path, stay, step}
 
 -- one path after the other
 pub path_join : {m : Meaning} {r s t : Row} {cs ds : List ℕ} → Path m r cs s → Path m s ds t → Path m r (cs ++ ds) t

@@ -1,6 +1,6 @@
 -- The law of the engine: what it means that a book is accepted, what a run comes to, and when there is a book.
 use Rattle.std.specs.Prelude.{◌≡◌, ℕ, ◌≤◌, true, List, length, take}
-use Rattle.process.specs.Meaning.{Meaning, Row, Reachable}
+use Rattle.process.specs.Meaning.{Meaning, Row, Reachable, Path}
 use Rattle.book.specs.Listing.{Listing, IsBook, In}
 use Rattle.run.specs.Standing.{Stand, opened}
 use Rattle.run.specs.Exchanges.{Entry, all_made, stand_all_made}
@@ -8,7 +8,7 @@ use Rattle.inspect.specs.Findings.{Finding}
 use Rattle.inspect.specs.Verdicts.{verdict}
 use Rattle.engine.specs.Accepting.{Accepts, Accepting}
 use Rattle.engine.specs.Existing.{Existing}
-use Rattle.engine.specs.Running.{Path, moved_choices, Running}
+use Rattle.engine.specs.Running.{moved_choices, Running}
 
 -- the row can be reached, and every accepted book of the process holds it, as a safe row
 pub record Held (m : Meaning) (r : Row) : Type 0 where

@@ -1,6 +1,6 @@
 -- What a run comes to, said by its process and its calls alone.
 use Rattle.std.specs.Prelude.{◌≡◌, ℕ, ◌+◌, ◌<◌, ◌≤◌, min, Bool, true, false, cond, List, [], ◌∷◌, ◌++◌, length, take, Some, None, Option, ◌≢◌, slice_index_or}
-use Rattle.process.specs.Meaning.{Meaning, Row}
+use Rattle.process.specs.Meaning.{Meaning, Row, Path}
 use Rattle.process.specs.Outcomes.{Answer, gives, refuses}
 use Rattle.process.specs.Counts.{openings_at}
 use Rattle.run.specs.Standing.{Stand, tallied}
@@ -9,11 +9,6 @@ use Rattle.run.specs.declared.exchange.Call.{Call}
 use Rattle.run.specs.declared.exchange.Call.TheVariants.{Press, Look, Openings}
 use Rattle.run.specs.declared.exchange.Reply.{Reply}
 use Rattle.run.specs.declared.exchange.Reply.TheVariants.{Moved, Shown, Counted}
-
--- these choices, one after the other, lead from the first row to the second
-pub data Path (m : Meaning) : Row → List ℕ → Row → Type 0 where
-  stay : {r : Row} → Path m r [] r
-  step : {r s t : Row} {cs : List ℕ} (c : ℕ) → c < m.choices → m.next r c ≡ Some s → Path m s cs t → Path m r (c ∷ cs) t
 
 -- the answer to a call at a row, and what its buffer, which held b, then holds
 pub data Answers (m : Meaning) (row : Row) : Call → Row → Answer Reply → Row → Type 0 where

@@ -1,3 +1,2 @@
 pub mod Findings
 pub mod Verdicts
-pub mod Ways

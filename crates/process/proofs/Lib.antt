@@ -1,3 +1,3 @@
 pub mod Tries
-pub mod Scans
 pub mod Every
+pub mod Tried

@@ -14,9 +14,13 @@ abbrev pub gave : {X : Type 0} → Answer X → Bool
 gave (gives x) = true
 gave (refuses number place) = false
 
+-- an answer of the code, whose errors have numbers and places
+abbrev pub told_by : {X E : Type 0} → (E → ℕ) → (E → ℕ) → Result X E → Answer X
+told_by number place (Ok x) = gives x
+told_by number place (Err e) = refuses (number e) (place e)
+
 abbrev pub told : {X : Type 0} → Result X Refusal → Answer X
-told (Ok x) = gives x
-told (Err e) = refuses (number_of e) (place_of e)
+told r = told_by number_of place_of r
 
 -- what comes of a call with a buffer: its answer, and what the buffer then holds
 pub record Outcome : Type 0 where

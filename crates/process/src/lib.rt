@@ -2,9 +2,11 @@
 #![tactic(auto)]
 
 mod limits;
+mod numbered;
 mod process;
 mod refusal;
 
 pub use limits::Limits;
+pub use numbered::Numbered;
 pub use process::Process;
 pub use refusal::Refusal;

@@ -1,6 +1,5 @@
 //! The interface of a process.
-ghost use Rattle.std.specs.Prelude.{◌≡◌};
-ghost use Rattle.process.specs.declared.limits.Limits.{Limits};
+ghost use Rattle.std.specs.Prelude.{◌≡◌, ℕ};
 ghost use Rattle.process.specs.Meaning.{Meaning, Lawful};
 ghost use Rattle.process.specs.Bounds.{Within};
 ghost use Rattle.process.specs.Outcomes.{told, start_outcome, next_outcome};
@@ -10,18 +9,27 @@ use crate::refusal::Refusal;
 
 /// A process, by its meaning: every answer below is the meaning's.
 pub trait Process {
+    ghost WIDEST: { ℕ };
+
     /// The widest row of any process of this kind, at most 512.
     const WIDEST: usize;
+
+    ghost MOST_CHOICES: { ℕ };
+
     /// The most choices of any process of this kind, at most 4,096.
     const MOST_CHOICES: usize;
 
     ghost meaning: { Self → Meaning };
 
-    ghost bounds: { Limits };
-
     /// The two constants.
     fn limits() -> Limits
-        ensures { result ≡ bounds };
+        ensures { result ≡ record { widest = WIDEST; most_choices = MOST_CHOICES } }
+    {
+        Limits {
+            widest: Self::WIDEST,
+            most_choices: Self::MOST_CHOICES,
+        }
+    }
 
     /// How many cells a row has.
     fn width(&self) -> usize
@@ -47,5 +55,5 @@ pub trait Process {
 
     ghost lawful: { (p : Self) → Lawful (meaning p) };
 
-    ghost within: { (p : Self) → Within bounds (meaning p) };
+    ghost within: { (p : Self) → Within (record { widest = WIDEST; most_choices = MOST_CHOICES }) (meaning p) };
 }

@@ -1,8 +1,9 @@
 //! Why a call on a process or a run is refused.
-ghost use Rattle.std.specs.Prelude.{◌≡◌};
 ghost use Rattle.process.specs.Refusals.{number_of, place_of};
 
-/// The operator's refusals. Each has a number, which a console shows.
+use crate::numbered::Numbered;
+
+/// The operator's refusals.
 #[derive(Clone, Copy, PartialEq, Eq, Debug)]
 pub enum Refusal {
     /// The row or the buffer has not the width of the process.
@@ -13,11 +14,13 @@ pub enum Refusal {
     NotAllowed,
 }
 
-impl Refusal {
+impl Numbered for Refusal {
+    ghost number_of = { number_of };
+
+    ghost place_of = { place_of };
+
     /// 20, 21 or 22.
-    pub fn number(self) -> u16
-        ensures { result ≡ number_of self }
-    {
+    fn number(&self) -> u16 {
         match self {
             Refusal::WrongLength => 20,
             Refusal::NoSuchChoice => 21,
@@ -25,10 +28,8 @@ impl Refusal {
         }
     }
 
-    /// Where the fault lies: these refusals have no place, and give 0.
-    pub fn place(self) -> usize
-        ensures { result ≡ place_of self }
-    {
+    /// These refusals have no place.
+    fn place(&self) -> usize {
         match self {
             Refusal::WrongLength | Refusal::NoSuchChoice | Refusal::NotAllowed => 0,
         }

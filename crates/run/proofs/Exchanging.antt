@@ -1,21 +1,10 @@
 -- One exchange after the other.
-use Rattle.std.proofs.Common.{◌≡◌, ℕ, ◌+◌, ◌<◌, ◌≤◌, List, [], ◌∷◌, ◌++◌, map, length, get_or, take, drop, set, Some, Option, sym, refl, ap, ◌∙◌, subst, arith}
+use Rattle.std.proofs.Common.{◌≡◌, ℕ, ◌+◌, ◌<◌, ◌≤◌, List, [], ◌∷◌, ◌++◌, map, length, get_or, take, drop, set, sym, refl, ap, ◌∙◌, subst, arith}
 use Rattle.std.proofs.lemmas.List.{append_assoc, append-nil, take_more_set, drop_more, drop-set-lt, take_all, drop_all, map-set, get_or-map, length-map}
-use Rattle.process.specs.Meaning.{Meaning, Row}
-use Rattle.process.specs.Outcomes.{Answer}
+use Rattle.process.specs.Meaning.{Meaning}
 use Rattle.run.specs.Standing.{Stand}
-use Rattle.run.specs.Exchanges.{Entry, entry_of, answer_to, left_after, made, stand_made, all_made, stand_all_made}
-use Rattle.run.specs.declared.exchange.Call.{Call}
-use Rattle.run.specs.declared.exchange.Reply.{Reply}
+use Rattle.run.specs.Exchanges.{Entry, entry_of, made, stand_made, all_made, stand_all_made}
 use Rattle.run.specs.declared.exchange.Exchange.{Exchange}
-
--- a call that was made with the buffer's cells
-pub made_is : (m : Meaning) (s : Stand) (k : Call) (held lent now out : Row) (a : Answer Reply) (o : Option (Answer Reply)) →
-    lent ≡ held → now ≡ out → out ≡ left_after m s lent k → a ≡ answer_to m s lent k →
-    ◌≡◌ {A = Entry} (record { call = k; buffer = now; answer = Some a }) (made m s (record { call = k; buffer = held; answer = o }))
-made_is m s k held lent now out a o p q x y =
-    let b = q ∙ x ∙ ap (λ (r : Row). left_after m s r k) p in
-    let d = y ∙ ap (λ (r : Row). answer_to m s r k) p in cc
 
 -- from the stand s the entries given are on their way: the first i are made, and the rest made from the stand t gives the whole
 pub record Making (m : Meaning) (s : Stand) (given now : List Entry) (i : ℕ) (t : Stand) : Type 0 where

@@ -1,28 +1,32 @@
--- How a run's cells hold its row.
-use Rattle.std.proofs.Common.{◌≡◌, ℕ, true, ◌++◌, length, take, is_ok, Ok, Err, Result, sym, refl, ap, ◌∙◌, arith}
-use Rattle.std.proofs.lemmas.List.{take_at}
-use Rattle.std.proofs.lemmas.Bool.{eqb-true}
-use Rattle.process.specs.Meaning.{Meaning, Row}
-use Rattle.process.specs.Outcomes.{gives, told, next_outcome}
-use Rattle.process.specs.declared.refusal.Refusal.{Refusal}
-use Rattle.run.specs.Standing.{Stand, opened, row_after}
+-- How a run holds its row.
+use Rattle.std.proofs.Common.{◌≡◌, ℕ, ◌<◌, length, take, Some, arith}
+use mathlib.Core.Logic.{∥∥₁_elim, ∥∥₁_map}
+use Rattle.std.proofs.Math.Nat.{ℕ_set}
+use Rattle.std.proofs.lemmas.List.{take_all}
+use Rattle.std.proofs.lemmas.Bool.Decides.{nat_tests}
+use Rattle.process.specs.Meaning.{Meaning, Row, Lawful, Reachable, by_choice}
+use Rattle.process.specs.Outcomes.{gives, next_outcome}
+use Rattle.process.proofs.Tries.{reach_row}
 
-pub ok_gives : (a : Result Unit Refusal) → is_ok a ≡ true → told a ≡ gives tt
-ok_gives (Ok u) e = refl
-ok_gives (Err w) e = cc
+module _ (m : Meaning) (w : Lawful m) where
+  -- a row of the width has room
+  pub fits : (r : Row) → length r ≡ m.width → take 512 r ≡ r
+  fits r e = take_all 512 r (omega (arith, w.width_high))
 
-gave_width : (m : Meaning) (r b : Row) (c : ℕ) → gives tt ≡ (next_outcome m r c b).answer → length b ≡ m.width
-gave_width m r b c e = grind (arith, eqb-true (length b) m.width)
+  -- a row that can be reached has the width
+  pub reached_long : (r : Row) → ∥ Reachable m r ∥₁ → length r ≡ m.width
+  reached_long r q = ∥∥₁_elim q (λ a b. ℕ_set _ _ a b) (λ p. (reach_row m w r p).long)
 
--- what was given stands in the first cells, once they begin with it
-pub gave_row : (m : Meaning) (r b cells new rest : Row) (c : ℕ) (a : Result Unit Refusal) → told a ≡ (next_outcome m r c b).answer → is_ok a ≡ true → length new ≡ length b →
-    cells ≡ new ++ rest → take m.width cells ≡ row_after (told a) new r
-gave_row m r b cells new rest c a e ok long is =
-    let gave = ok_gives a ok in
-    let w = gave_width m r b c (sym gave ∙ e) in
-    ap (take m.width) is ∙ take_at new rest m.width (long ∙ w) ∙ sym (ap (λ x. row_after x new r) gave)
+-- a choice that was given, with what the buffer then held: there is such a choice, and it leads there
+module _ (m : Meaning) (r b new : Row) (c : ℕ) (gave : gives tt ≡ (next_outcome m r c b).answer) where
+  pub gave_width : length b ≡ m.width
+  gave_width = grind (arith, nat_tests)
 
--- cells that begin with the start row
-pub opened_at : (m : Meaning) (new rest : Row) (a b : ℕ) → length new ≡ m.width → new ≡ m.start → a ≡ 0 → b ≡ 0 →
-    ◌≡◌ {A = Stand} (record { row = take m.width (new ++ rest); moved = a; refused = b }) (opened m)
-opened_at m new rest a b long is p q = let row = take_at new rest m.width long in cc
+  gave_choice : c < m.choices
+  gave_choice = grind (arith, nat_tests)
+
+  gave_next : new ≡ (next_outcome m r c b).left → m.next r c ≡ Some new
+  gave_next e = grind (arith, nat_tests)
+
+  pub gave_reached : new ≡ (next_outcome m r c b).left → ∥ Reachable m r ∥₁ → ∥ Reachable m new ∥₁
+  gave_reached e q = ∥∥₁_map q (λ p. by_choice c p gave_choice (gave_next e))

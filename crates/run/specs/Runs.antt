@@ -1,14 +1,17 @@
--- What a run means and where it stands, given what its process means.
+-- What a run means and where it stands.
 use Rattle.process.specs.Meaning.{Meaning}
+use Rattle.process.specs.declared.process.Process.{Ghosts}
 use Rattle.run.specs.Standing.{Stand, stand_of}
 use Rattle.run.specs.declared.run.Run.{Run}
 use Rattle.run.specs.declared.closed.ClosedRun.{ClosedRun}
 
-abbrev pub means : {P : Type 0} → (P → Meaning) → Run P → Meaning
-means f r = f r.process
+module _ {P : Type 0} {p : Ghosts P} where
+  -- what its process means
+  abbrev pub means : Run P p → Meaning
+  means r = p.meaning r.process
 
-abbrev pub stands : {P : Type 0} → (P → Meaning) → Run P → Stand
-stands f r = stand_of (f r.process) r.standing
+  abbrev pub stands : Run P p → Stand
+  stands r = stand_of r.standing
 
-abbrev pub closed_stands : {P : Type 0} → (P → Meaning) → ClosedRun P → Stand
-closed_stands f r = stand_of (f r.process) r.standing
+  abbrev pub closed_stands : ClosedRun P p → Stand
+  closed_stands r = stand_of r.standing

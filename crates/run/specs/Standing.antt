@@ -1,5 +1,6 @@
 -- Where a run stands: its row and its tallies.
-use Rattle.std.specs.Prelude.{ℕ, ◌+◌, min, Bool, cond, ◌||◌, take, ◌==◌}
+use Rattle.std.specs.Prelude.{ℕ, ◌+◌, min, Bool, cond, ◌||◌, ◌==◌}
+use Rattle.fixed.specs.Items.{items_of}
 use Rattle.process.specs.Meaning.{Meaning, Row}
 use Rattle.process.specs.Outcomes.{Answer, gives, refuses, next_outcome}
 use Rattle.run.specs.declared.standing.Standing.{Standing}
@@ -9,9 +10,9 @@ pub record Stand : Type 0 where
   pub moved : ℕ
   pub refused : ℕ
 
--- where a run of m stands that keeps s
-abbrev pub stand_of : Meaning → Standing → Stand
-stand_of m s = record { row = take m.width s.cells; moved = s.moved; refused = s.refused }
+-- where a run stands that keeps s
+abbrev pub stand_of : Standing → Stand
+stand_of s = record { row = items_of s.row; moved = s.moved; refused = s.refused }
 
 abbrev pub opened : Meaning → Stand
 opened m = record { row = m.start; moved = 0; refused = 0 }

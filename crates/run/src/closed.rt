@@ -1,36 +1,16 @@
 //! Closed runs.
-ghost use Rattle.std.specs.Prelude.{◌≡◌};
-ghost use Rattle.run.specs.Runs.{closed_stands};
+ghost use Rattle.process.specs.Meaning.{Reachable};
+ghost use Rattle.run.specs.Standing.{stand_of};
 
 use crate::standing::Standing;
 use process::Process;
 
-/// A run that has ended. It can only be read.
+mod reading;
+
+/// A run that has ended, at a row that can be reached. It can only be read.
 #[derive(Drop)]
 pub struct ClosedRun<P: Process> {
     pub(crate) process: P,
     pub(crate) standing: Standing,
-}
-
-impl<P: Process> ClosedRun<P> {
-    /// The row at which the run ended.
-    pub fn row(&self) -> &[u16]
-        ensures { result.now ≡ (closed_stands P.meaning self.now).row }
-    {
-        self.standing.row(self.process.width())
-    }
-
-    /// How many presses moved the run, up to 4,294,967,295.
-    pub fn moved(&self) -> u32
-        ensures { result ≡ (closed_stands P.meaning self.now).moved }
-    {
-        self.standing.moved
-    }
-
-    /// How many presses were refused by 21 or 22, up to 4,294,967,295.
-    pub fn refused(&self) -> u32
-        ensures { result ≡ (closed_stands P.meaning self.now).refused }
-    {
-        self.standing.refused
-    }
+    ghost reached: { ∥ Reachable (P.meaning process) (stand_of standing).row ∥₁ },
 }

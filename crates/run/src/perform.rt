@@ -12,31 +12,30 @@ use process::{Process, Refusal};
 
 fn answer<P: Process>(run: &mut Run<P>, call: Call, out: &mut [u16]) -> Result<Reply, Refusal>
     ensures same { run.new.process ≡ run.old.process }
-    ensures answer { told result ≡ answer_to (means P.meaning run.old) (stands P.meaning run.old) out.old call }
-    ensures left { out.new ≡ left_after (means P.meaning run.old) (stands P.meaning run.old) out.old call }
-    ensures stand { stands P.meaning run.new ≡ stand_after (means P.meaning run.old) (stands P.meaning run.old) out.old call }
+    ensures answer { told result ≡ answer_to (means run.old) (stands run.old) out.old call }
+    ensures left { out.new ≡ left_after (means run.old) (stands run.old) out.old call }
+    ensures stand { stands run.new ≡ stand_after (means run.old) (stands run.old) out.old call }
 {
-    match call {
-        Call::Press { choice } => match run.press(choice, out) {
-            Ok(()) => Ok(Reply::Moved),
-            Err(why) => Err(why),
+    Ok(match call {
+        Call::Press { choice } => {
+            run.press(choice, out)?;
+            Reply::Moved
+        }
+        Call::Look => {
+            run.look(out)?;
+            Reply::Shown
+        }
+        Call::Openings => Reply::Counted {
+            count: run.openings(out)?,
         },
-        Call::Look => match run.look(out) {
-            Ok(()) => Ok(Reply::Shown),
-            Err(why) => Err(why),
-        },
-        Call::Openings => match run.openings(out) {
-            Ok(count) => Ok(Reply::Counted { count }),
-            Err(why) => Err(why),
-        },
-    }
+    })
 }
 
 /// Makes the call with its own buffer, and notes the reply.
 pub fn make<P: Process>(run: &mut Run<P>, exchange: &mut Exchange)
     ensures same { run.new.process ≡ run.old.process }
-    ensures entry { entry_of exchange.new ≡ made (means P.meaning run.old) (stands P.meaning run.old) (entry_of exchange.old) }
-    ensures stand { stands P.meaning run.new ≡ stand_made (means P.meaning run.old) (stands P.meaning run.old) (entry_of exchange.old) }
+    ensures entry { entry_of exchange.new ≡ made (means run.old) (stands run.old) (entry_of exchange.old) }
+    ensures stand { stands run.new ≡ stand_made (means run.old) (stands run.old) (entry_of exchange.old) }
 {
     let reply = answer(run, exchange.call, &mut exchange.buffer);
     exchange.reply = Some(reply);
@@ -45,8 +44,8 @@ pub fn make<P: Process>(run: &mut Run<P>, exchange: &mut Exchange)
 // Makes the calls, one after the other.
 fn make_all<P: Process>(run: &mut Run<P>, exchanges: &mut [Exchange])
     ensures same { run.new.process ≡ run.old.process }
-    ensures entries { map entry_of exchanges.new ≡ all_made (means P.meaning run.old) (stands P.meaning run.old) (map entry_of exchanges.old) }
-    ensures stand { stands P.meaning run.new ≡ stand_all_made (means P.meaning run.old) (stands P.meaning run.old) (map entry_of exchanges.old) }
+    ensures entries { map entry_of exchanges.new ≡ all_made (means run.old) (stands run.old) (map entry_of exchanges.old) }
+    ensures stand { stands run.new ≡ stand_all_made (means run.old) (stands run.old) (map entry_of exchanges.old) }
 {
     for exchange in exchanges.iter_mut() {
         make(run, exchange);
@@ -57,7 +56,7 @@ fn make_all<P: Process>(run: &mut Run<P>, exchanges: &mut [Exchange])
 pub fn play<P: Process>(process: P, exchanges: &mut [Exchange]) -> ClosedRun<P>
     ensures same { result.process ≡ process }
     ensures entries { map entry_of exchanges.new ≡ all_made (P.meaning process) (opened (P.meaning process)) (map entry_of exchanges.old) }
-    ensures stand { closed_stands P.meaning result ≡ stand_all_made (P.meaning process) (opened (P.meaning process)) (map entry_of exchanges.old) }
+    ensures stand { closed_stands result ≡ stand_all_made (P.meaning process) (opened (P.meaning process)) (map entry_of exchanges.old) }
 {
     let mut run = Run::open(process);
     make_all(&mut run, exchanges);

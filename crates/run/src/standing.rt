@@ -1,25 +1,38 @@
 //! Where a run stands.
-ghost use Rattle.std.specs.Prelude.{◌≡◌, ◌≤◌, ◌++◌, length, take, drop};
+ghost use Rattle.std.specs.Prelude.{◌≡◌, length, take};
+ghost use Rattle.fixed.specs.Items.{items_of};
 ghost use Rattle.process.specs.Outcomes.{told, next_outcome};
 ghost use Rattle.run.specs.Standing.{stand_of, opened, row_after};
 
+use fixed::Fixed;
 use process::{Process, Refusal};
 
-// The row of a run, in the first cells, and how often the run was pressed.
+// The row of a run, and how often the run was pressed.
 #[derive(Clone, Copy)]
 pub(crate) struct Standing {
-    pub(crate) cells: [u16; 512],
+    pub(crate) row: Fixed<u16, 512>,
     pub(crate) moved: u32,
     pub(crate) refused: u32,
 }
 
+// Writes the start row.
+#[tactic(auto, using(process::proofs::Tries::started))]
+fn begin<P: Process>(process: &P, out: &mut [u16])
+    requires { length out.old ≡ (P.meaning process.now).width }
+    ensures { out.new ≡ (P.meaning process.now).start }
+{
+    let _ = process.start(out);
+}
+
 impl Standing {
-    fn blank() -> Standing
+    // At this row, with both tallies at 0.
+    fn at(row: &[u16]) -> Standing
+        ensures row { items_of result.row ≡ take 512 row.now }
         ensures moved { result.moved ≡ 0 }
         ensures refused { result.refused ≡ 0 }
     {
         Standing {
-            cells: [0; 512],
+            row: Fixed::new(row, 0),
             moved: 0,
             refused: 0,
         }
@@ -27,31 +40,27 @@ impl Standing {
 
     /// Where a run of the process begins.
     pub(crate) fn opened<P: Process>(process: &P) -> Standing
-        ensures { stand_of (P.meaning process.now) result ≡ opened (P.meaning process.now) }
+        ensures { stand_of result ≡ opened (P.meaning process.now) }
     {
-        let mut standing = Standing::blank();
-        let all: &mut [u16] = &mut standing.cells;
-        let _ = process.start(&mut all[0..process.width()]);
-        standing
+        let mut room = [0u16; 512];
+        let all: &mut [u16] = &mut room;
+        let start = &mut all[0..process.width()];
+        begin(process, start);
+        Standing::at(start)
     }
 
-    pub(crate) fn row(&self, width: usize) -> &[u16]
-        requires { width ≤ 512 }
-        ensures value { result.now ≡ take width self.now.cells }
-        ensures len { length result.now ≡ width }
+    pub(crate) fn row(&self) -> &[u16]
+        ensures { result.now ≡ (stand_of self.now).row }
     {
-        let all: &[u16] = &self.cells;
-        &all[0..width]
+        self.row.as_slice()
     }
 
-    pub(crate) fn set_row(&mut self, row: &[u16])
-        requires { length row.now ≤ 512 }
-        ensures cells { self.new.cells ≡ row.now ++ drop (length row.now) self.old.cells }
+    fn set_row(&mut self, row: &[u16])
+        ensures row { items_of self.new.row ≡ take 512 row.now }
         ensures moved { self.new.moved ≡ self.old.moved }
         ensures refused { self.new.refused ≡ self.old.refused }
     {
-        let all: &mut [u16] = &mut self.cells;
-        all[0..row.len()].copy_from_slice(row);
+        self.row.replace(row);
     }
 
     /// Tries the choice from here: the row becomes the next one, unless the choice is refused.
@@ -61,16 +70,14 @@ impl Standing {
         choice: usize,
         out: &mut [u16],
     ) -> Result<(), Refusal>
-        ensures answer { told result ≡ (next_outcome (P.meaning process.now) (stand_of (P.meaning process.now) self.old).row choice out.old).answer }
-        ensures left { out.new ≡ (next_outcome (P.meaning process.now) (stand_of (P.meaning process.now) self.old).row choice out.old).left }
-        ensures row { (stand_of (P.meaning process.now) self.new).row ≡ row_after (told result) out.new (stand_of (P.meaning process.now) self.old).row }
+        ensures answer { told result ≡ (next_outcome (P.meaning process.now) (stand_of self.old).row choice out.old).answer }
+        ensures left { out.new ≡ (next_outcome (P.meaning process.now) (stand_of self.old).row choice out.old).left }
+        ensures row { (stand_of self.new).row ≡ row_after (told result) out.new (stand_of self.old).row }
         ensures moved { self.new.moved ≡ self.old.moved }
         ensures refused { self.new.refused ≡ self.old.refused }
     {
-        let answer = process.next(self.row(process.width()), choice, out);
-        if answer.is_ok() {
-            self.set_row(out);
-        }
-        answer
+        process.next(self.row(), choice, out)?;
+        self.set_row(out);
+        Ok(())
     }
 }

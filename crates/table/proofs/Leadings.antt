@@ -6,7 +6,7 @@ use Rattle.std.proofs.lemmas.Bool.Decides.{nat_tests}
 use Rattle.table.specs.declared.arc.Arc.{Arc}
 use Rattle.table.specs.Tables.{applies, lead, lead_safely, row_of, flagged, meaning_of}
 use Rattle.table.specs.Leading.{For, First, Follows, arc_at}
-use Rattle.table.specs.Laws.{led, one_cell}
+use Rattle.table.specs.Laws.{led, lead_more, one_cell}
 
 module _ (n c : ℕ) where
   -- an arc that is not for the choice, put in front, leaves the first as it was, one place on
@@ -21,8 +21,8 @@ module _ (n c : ℕ) where
   first_of [] t e = absurd (let z : ◌≡◌ {A = ℕ} 0 1 = cc in omega arith)
   first_of (a ∷ rest) t e =
       elim (cases_Bool (applies n c a)) [
-        | inl y ↦ (0, record { within = omega arith; here = grind (arith, nat_tests); before = λ k h. absurd (omega arith) }, cc (cond-true _ _ _ y))
-        | inr y ↦ let q = first_of rest t (sym (cond-false _ _ _ y) ∙ e) in (suc q.0, later a rest q.0 y q.1, q.2)
+        | inl y ↦ (0, record { within = omega arith; here = grind (arith, nat_tests); before = λ k h. absurd (omega arith) }, cc (cond-true (applies n c a) (Some a.to) (lead n c rest) y, lead_more n c a rest))
+        | inr y ↦ let q = first_of rest t (sym (lead_more n c a rest ∙ cond-false _ _ _ y) ∙ e) in (suc q.0, later a rest q.0 y q.1, q.2)
       ]
 
   lead_of : (arcs : List Arc) (i : ℕ) → First n c arcs i → lead n c arcs ≡ Some (arc_at arcs i).to

@@ -1,11 +1,11 @@
 -- What holds of a made table, of which it is known what it means.
 use Rattle.std.proofs.Common.{◌≡◌, Bool, true, false, List, sym, refl, ◌∙◌, subst}
 use Rattle.std.proofs.lemmas.Bool.{cond-true, cond-false, and_right}
-use Rattle.process.specs.Meaning.{Meaning}
+use Rattle.process.specs.Meaning.{Meaning, Blank}
+use Rattle.process.specs.Outcomes.{gave}
 use Rattle.table.specs.declared.arc.Arc.{Arc}
-use Rattle.table.specs.Faults.{gave}
 use Rattle.table.specs.Examination.{examined}
-use Rattle.table.specs.Tables.{tabled, Blank}
+use Rattle.table.specs.Tables.{tabled}
 use Rattle.table.specs.Leading.{Follows}
 use Rattle.table.proofs.Leadings.{follows_arcs}
 

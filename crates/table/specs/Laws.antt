@@ -1,15 +1,15 @@
 -- What every process keeps to, of a table whose arcs fit.
-use Rattle.std.specs.Prelude.{◌≡◌, ℕ, zero, suc, ◌+◌, ◌<◌, ◌≤◌, Bool, true, false, cond, List, [], ◌∷◌, length, Some, None, vec_items, Option, slice_index, refl}
+use Rattle.std.specs.Prelude.{◌≡◌, ℕ, zero, suc, ◌+◌, ◌<◌, ◌≤◌, Bool, true, false, cond, List, [], ◌∷◌, length, Some, None, vec_items, Option, slice_index, find, refl}
 use Rattle.std.proofs.Common.{subst, arith}
 use Rattle.std.specs.Option.{option_map}
 use Rattle.std.proofs.lemmas.Bool.{and_parts, eqb-true}
 use Rattle.std.proofs.lemmas.Bool.Decides.{nat_tests}
 use Rattle.process.specs.Meaning.{Row, IsRow, Lawful}
+use Rattle.process.specs.Outcomes.{gave}
 use Rattle.process.specs.Bounds.{Within}
 use Rattle.table.specs.declared.arc.Arc.{Arc}
-use Rattle.table.specs.Faults.{gave}
 use Rattle.table.specs.Examination.{examined_arcs}
-use Rattle.table.specs.Tables.{largest, lead, row_of, flagged, meaning_of}
+use Rattle.table.specs.Tables.{largest, applies, lead, row_of, flagged, meaning_of}
 use Rattle.table.specs.declared.table.Table.{Table}
 use Rattle.table.specs.Means.{means}
 
@@ -30,6 +30,14 @@ led false o s e = (0, cc, cc, cc)
 pub largest_low : (n i : ℕ) (arcs : List Arc) → Fit n i arcs → largest arcs ≤ 4095
 largest_low n i [] h = omega arith
 largest_low n i (a ∷ rest) h = let p = parts n i a rest h in omega (arith, largest_low n (i + 1) rest p.2)
+
+-- where the first arc of several leads
+pub lead_more : (n c : ℕ) (a : Arc) (rest : List Arc) → lead n c (a ∷ rest) ≡ cond (applies n c a) (Some a.to) (lead n c rest)
+lead_more n c a rest = by (applies n c a) (find (applies n c) rest)
+  where
+    by : (b : Bool) (o : Option Arc) → option_map (λ (x : Arc). x.to) (cond b (Some a) o) ≡ cond b (Some a.to) (option_map (λ (x : Arc). x.to) o)
+    by true o = refl
+    by false o = refl
 
 lead_low : (n i m c : ℕ) (arcs : List Arc) (t : ℕ) → Fit n i arcs → lead m c arcs ≡ Some t → t < n
 lead_low n i m c [] t h e = let z : ◌≡◌ {A = ℕ} 0 1 = cc in omega arith

@@ -1,9 +1,9 @@
 -- What a table means: a row's one cell is its number, and an arc says where a choice leads.
-use Rattle.std.specs.Prelude.{◌≡◌, ℕ, ◌+◌, max, Bool, false, cond, ◌&&◌, List, [], ◌∷◌, length, Some, None, Option, ◌==◌, slice_index, slice_index_or}
+use Rattle.std.specs.Prelude.{ℕ, ◌+◌, max, Bool, false, cond, ◌&&◌, List, [], ◌∷◌, length, None, Option, ◌==◌, slice_index, slice_index_or, find}
 use Rattle.std.specs.Option.{option_map}
 use Rattle.process.specs.Meaning.{Meaning, Row}
+use Rattle.process.specs.Outcomes.{gave}
 use Rattle.table.specs.declared.arc.Arc.{Arc}
-use Rattle.table.specs.Faults.{gave}
 use Rattle.table.specs.Examination.{examined}
 
 -- the largest choice of the arcs, 0 without arcs
@@ -33,8 +33,7 @@ applies n c a = a.from == n && a.choice == c
 
 -- where choice c leads from row n: the end of the first arc for it
 abbrev pub lead : ℕ → ℕ → List Arc → Option ℕ
-lead n c [] = None
-lead n c (a ∷ rest) = cond (applies n c a) (Some a.to) (lead n c rest)
+lead n c arcs = option_map (λ (a : Arc). a.to) (find (applies n c) arcs)
 
 -- the next row, None where the row is not safe or no arc is for the choice
 abbrev pub lead_safely : List Bool → List Arc → Row → ℕ → Option Row
@@ -50,14 +49,6 @@ meaning_of rows arcs =
       safe = flagged rows;
       next = lead_safely rows arcs;
     }
-
--- one cell, which starts at 0, and one choice; no row is safe, and nothing is allowed
-pub record Blank (m : Meaning) : Type 0 where
-  pub width : m.width ≡ 1
-  pub choices : m.choices ≡ 1
-  pub start : m.start ≡ row_of 0
-  pub safe : (r : Row) → m.safe r ≡ false
-  pub next : (r : Row) (c : ℕ) → m.next r c ≡ None
 
 -- what a table keeps of a list: all of it, or nothing where it has a fault
 abbrev pub kept : {X : Type 0} → List Bool → List Arc → List X → List X

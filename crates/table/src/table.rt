@@ -1,6 +1,6 @@
 //! A table.
 ghost use Rattle.std.specs.Prelude.{◌≡◌, ◌≤◌, true, length};
-ghost use Rattle.table.specs.Faults.{gave};
+ghost use Rattle.process.specs.Outcomes.{gave};
 ghost use Rattle.table.specs.Examination.{examined_arcs};
 ghost use Rattle.table.specs.Tables.{count_choices};
 

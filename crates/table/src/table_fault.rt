@@ -1,8 +1,12 @@
 //! What can be wrong with a table.
-ghost use Rattle.std.specs.Prelude.{◌≡◌};
-ghost use Rattle.table.specs.Faults.{number_of, place_of};
+ghost use Rattle.std.specs.Prelude.{Some};
+ghost use Rattle.table.specs.Faults.{number_of, place_of, words_of};
 
-/// The first fault that an examination finds. Each has a number and a place.
+use process::Numbered;
+use std::error::Error;
+use std::fmt;
+
+/// The first fault that an examination finds.
 #[derive(Clone, Copy, PartialEq, Eq, Debug)]
 pub enum TableFault {
     /// There are no rows, more than 4,096 rows or more than 16,384 arcs.
@@ -13,11 +17,13 @@ pub enum TableFault {
     End { arc: usize },
 }
 
-impl TableFault {
+impl Numbered for TableFault {
+    ghost number_of = { number_of };
+
+    ghost place_of = { place_of };
+
     /// 1, 2 or 4.
-    pub fn number(self) -> u16
-        ensures { result ≡ number_of self }
-    {
+    fn number(&self) -> u16 {
         match self {
             TableFault::Size => 1,
             TableFault::Choice { .. } => 2,
@@ -26,12 +32,27 @@ impl TableFault {
     }
 
     /// The index of the arc, 0 for the size.
-    pub fn place(self) -> usize
-        ensures { result ≡ place_of self }
-    {
+    fn place(&self) -> usize {
         match self {
             TableFault::Size => 0,
-            TableFault::Choice { arc } | TableFault::End { arc } => arc,
+            TableFault::Choice { arc } | TableFault::End { arc } => *arc,
         }
     }
 }
+
+impl fmt::Display for TableFault {
+    ghost output = { λ f. Some (words_of f) };
+
+    fn fmt<W: fmt::Write>(&self, f: &mut fmt::Formatter<W>) -> fmt::Result {
+        match self {
+            TableFault::Size => write!(f, "a table has 1 to 4096 rows and at most 16384 arcs"),
+            TableFault::Choice { arc } => write!(f, "the choice of arc {arc} is above 4095"),
+            TableFault::End { arc } => write!(
+                f,
+                "arc {arc} leads from or to a row that the table does not have"
+            ),
+        }
+    }
+}
+
+impl Error for TableFault {}

@@ -4,27 +4,22 @@ ghost use Rattle.token.specs.Laws.{lawful_drawing, within_drawing};
 
 use crate::marking::Marking;
 use crate::token_drawing::TokenDrawing;
-use process::{Limits, Process, Refusal};
+use process::{Process, Refusal};
 
 impl Process for TokenDrawing {
+    ghost WIDEST = { 257 };
+
     const WIDEST: usize = 257;
+
+    ghost MOST_CHOICES = { 321 };
 
     const MOST_CHOICES: usize = 321;
 
     ghost meaning = { means };
 
-    ghost bounds = { record { widest = 257; most_choices = 321 } };
-
     ghost lawful = { lawful_drawing };
 
     ghost within = { within_drawing };
-
-    fn limits() -> Limits {
-        Limits {
-            widest: Self::WIDEST,
-            most_choices: Self::MOST_CHOICES,
-        }
-    }
 
     fn width(&self) -> usize {
         self.row_width()

@@ -1,3 +1,2 @@
-mod Tried
 pub mod Codes
 pub mod Goods

@@ -1,8 +1,9 @@
 //! How a table is made.
 ghost use Rattle.std.specs.Prelude.{◌≡◌, true, false};
-ghost use Rattle.table.specs.Faults.{gave};
+ghost use Rattle.process.specs.Meaning.{Blank};
+ghost use Rattle.process.specs.Outcomes.{gave};
 ghost use Rattle.table.specs.Examination.{examined};
-ghost use Rattle.table.specs.Tables.{kept, tabled, Blank};
+ghost use Rattle.table.specs.Tables.{kept, tabled};
 ghost use Rattle.table.specs.Leading.{Follows};
 ghost use Rattle.table.specs.Means.{means};
 
@@ -16,7 +17,7 @@ fn clear_faulty(safe: &mut Vec<bool>, arcs: &mut Vec<Arc>)
     ensures rows { safe.new.items ≡ kept safe.old.items arcs.old.items safe.old.items }
     ensures arcs { arcs.new.items ≡ kept safe.old.items arcs.old.items arcs.old.items }
 {
-    if let Err(_) = examine(safe, arcs) {
+    if examine(safe, arcs).is_err() {
         safe.clear();
         arcs.clear();
     }

@@ -6,7 +6,7 @@ ghost use Rattle.table.specs.Laws.{lawful_table, within_table};
 
 use super::Table;
 use super::reading::{flag_of, lead_of};
-use process::{Limits, Process, Refusal};
+use process::{Process, Refusal};
 
 // Writes the row of one cell.
 fn put(out: &mut [u16], cell: u16)
@@ -17,24 +17,19 @@ fn put(out: &mut [u16], cell: u16)
 }
 
 impl Process for Table {
+    ghost WIDEST = { 1 };
+
     const WIDEST: usize = 1;
+
+    ghost MOST_CHOICES = { 4096 };
 
     const MOST_CHOICES: usize = 4096;
 
     ghost meaning = { means };
 
-    ghost bounds = { record { widest = 1; most_choices = 4096 } };
-
     ghost lawful = { lawful_table };
 
     ghost within = { within_table };
-
-    fn limits() -> Limits {
-        Limits {
-            widest: Self::WIDEST,
-            most_choices: Self::MOST_CHOICES,
-        }
-    }
 
     fn width(&self) -> usize {
         1

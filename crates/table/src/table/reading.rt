@@ -8,18 +8,14 @@ use crate::arc::Arc;
 pub(super) fn flag_of(safe: &[bool], row: u16) -> bool
     ensures { result ≡ flag_at safe.now row }
 {
-    (row as usize) < safe.len() && safe[row as usize]
+    safe.get(row as usize) == Some(&true)
 }
 
 // The largest choice, 0 without arcs.
 pub(super) fn largest_choice(arcs: &[Arc]) -> u16
     ensures { result ≡ largest arcs.now }
 {
-    let mut most: u16 = 0;
-    for arc in arcs {
-        most = most.max(arc.choice);
-    }
-    most
+    arcs.iter().fold(0, |most, arc| arc.choice.max(most))
 }
 
 // Whether the arc is for this choice at this row.
@@ -33,10 +29,7 @@ fn is_for(arc: Arc, row: u16, choice: usize) -> bool
 pub(super) fn lead_of(arcs: &[Arc], row: u16, choice: usize) -> Option<u16>
     ensures { result ≡ lead row choice arcs.now }
 {
-    for arc in arcs {
-        if is_for(*arc, row, choice) {
-            return Some(arc.to);
-        }
-    }
-    None
+    arcs.iter()
+        .find(|arc| is_for(**arc, row, choice))
+        .map(|arc| arc.to)
 }

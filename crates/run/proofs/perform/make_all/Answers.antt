@@ -11,14 +11,14 @@ loop-exchange-init g c = (refl, making_none _ _ _)
 pub loop-exchange-preserved : goal.loop-exchange-preserved
 loop-exchange-preserved g c =
     let f = g.P.Process.meaning in
-    let m = means f c.args.run.now in
+    let m = means c.args.run.now in
     let here = c.loop-exchange.run in
     let after = c.make.new.run in
     let done = c.make.ensures in
     let same = c.loop-exchange.invariant.0 in
     let below : c.loop-exchange.exchange-index < length c.loop-exchange.exchanges = omega arith in (
       done.same ∙ same,
-      making_more m (means f here) _ _ c.loop-exchange.exchanges _ (stands f here) (stands f after) c.exchange-item.result c.make.new.exchange (ap f (sym same))
+      making_more m (means here) _ _ c.loop-exchange.exchanges _ (stands here) (stands after) c.exchange-item.result c.make.new.exchange (ap f (sym same))
           c.loop-exchange.invariant.1 below done.entry done.stand,
     )
 

@@ -7,5 +7,5 @@ use Rattle.run.proofs.perform.make_all.Given as goal
 abbrev pub invariant-loop-exchange : goal.invariant-loop-exchange
 invariant-loop-exchange g l =
     (l.run.process ≡ l.initial.run.process)
-    × Making (means g.P.Process.meaning l.initial.run) (stands g.P.Process.meaning l.initial.run) (map entry_of l.initial.exchanges)
-    (map entry_of l.exchanges) l.exchange-index (stands g.P.Process.meaning l.run)
+    × Making (means l.initial.run) (stands l.initial.run) (map entry_of l.initial.exchanges)
+    (map entry_of l.exchanges) l.exchange-index (stands l.run)

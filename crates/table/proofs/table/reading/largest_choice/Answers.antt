@@ -1,14 +1,15 @@
-use Rattle.std.proofs.Common.{◌≡◌, ℕ, ◌+◌, ◌<◌, max, List, length, get_or, drop, arith}
+use Rattle.std.proofs.Common.{◌≡◌, ℕ, max, List, [], ◌∷◌, rules, arith}
+use Rattle.std.specs.List.{fold}
 use Rattle.table.specs.declared.arc.Arc.{Arc}
 use Rattle.table.specs.Tables.{largest}
-use Rattle.process.proofs.Scans.{one_more, all_done}
 use Rattle.table.proofs.table.reading.largest_choice.Goals as goal
 
-more : (arcs : List Arc) (i m n : ℕ) (a : Arc) → i < length arcs → n ≡ max m (get_or arcs i a).choice → max m (largest (drop i arcs)) ≡ largest arcs → max n (largest (drop (i + 1) arcs)) ≡ largest arcs
-more arcs i m n a h e k = omega (arith, one_more (λ xs. max m (largest xs)) arcs i k a h)
-
-pub loop-arc-preserved : goal.loop-arc-preserved
-loop-arc-preserved c = more _ _ _ _ _ c.loop-arc-test.true c.max-most.ensures c.loop-arc.invariant
+folded : (n : ℕ) (arcs : List Arc) → fold (λ m (a : Arc). max a.choice m) n arcs ≡ max n (largest arcs)
+folded n [] = omega arith
+folded n (a ∷ rest) = omega (arith, folded (max a.choice n) rest)
 
 pub returns : goal.returns
-returns c = omega (arith, all_done (λ xs. max c.loop-arc.most (largest xs)) _ _ c.loop-arc.invariant c.loop-arc-test.false)
+returns c =
+    let arcs = c.args.arcs.now in
+    let is : c.fold.result ≡ fold (λ m (a : Arc). max a.choice m) 0 arcs = search rules in
+    omega (arith, is, folded 0 arcs)
