@@ -68,6 +68,7 @@ impl<P: Process> Run<P> {
             return Err(Refusal::WrongLength);
         }
         let row = self.row();
+        // A loop: of a filter that writes into the buffer the count is not proved.
         let mut count: usize = 0;
         for choice in 0..self.process.choices() {
             if self.process.next(row, choice, out).is_ok() {
