@@ -12,8 +12,8 @@ pub record Swept {X : Type 0} (f : ℕ → X → Row → Row) (i : ℕ) (xs : Li
   pub low : AtMost (20000 + i) r
 
 -- one more element has changed the row, and no cell by more than one
-pub swept_on : {X : Type 0} (f : ℕ → X → Row → Row) (i : ℕ) (xs : List X) (r whole s : Row) (x : X) → ((j : ℕ) (y : X) → Tame (length r) 1 (f j y)) → i < length xs → s ≡ f i (get_or xs i x) r → Swept f i xs r whole → Swept f (i + 1) xs s whole
-swept_on f i xs r whole s x t h e w = record {
-  rest = ap (sweep f (i + 1) (drop (i + 1) xs)) e ∙ sym (at_drop_more (λ ys. sweep f i ys r) xs i x h) ∙ w.rest;
-  low = λ k. omega (arith, (t i (get_or xs i x)).low (20000 + i) r refl w.low k, ap (λ q. get_or q k 0) e);
+pub swept_on : {X : Type 0} (f : ℕ → X → Row → Row) (i : ℕ) (xs : List X) (r whole s : Row) (x : X) → ((j : ℕ) (y : X) → Tame (length r) 1 (f j y)) → i < length xs → x ≡ get_or xs i x → s ≡ f i x r → Swept f i xs r whole → Swept f (i + 1) xs s whole
+swept_on f i xs r whole s x t h at e w = record {
+  rest = ap (sweep f (i + 1) (drop (i + 1) xs)) (e ∙ ap (λ y. f i y r) at) ∙ sym (at_drop_more (λ ys. sweep f i ys r) xs i x h) ∙ w.rest;
+  low = λ k. omega (arith, (t i x).low (20000 + i) r refl w.low k, ap (λ q. get_or q k 0) e);
 }

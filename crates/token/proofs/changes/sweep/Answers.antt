@@ -1,8 +1,5 @@
-use Rattle.std.proofs.Common.{ap, ◌∙◌}
 use Rattle.token.proofs.Sweeping.{swept_on}
 use Rattle.token.proofs.changes.sweep.Goals as goal
 
 pub loop-i-preserved : goal.loop-i-preserved
-loop-i-preserved g c =
-    let makes = g.C.Change.makes c.args.change in
-    swept_on makes c.loop-i.i c.args.items.now c.loop-i.out _ _ c.index-items-i.result (g.met.C.Change.tame c.args.change _) c.loop-i-test.true (c.make.ensures ∙ ap (λ x. makes c.loop-i.i x c.loop-i.out) c.index-items-i.is) c.loop-i.invariant
+loop-i-preserved g c = swept_on (g.C.Change.makes c.args.change) _ c.args.items.now _ _ _ _ (g.met.C.Change.tame c.args.change _) c.loop-i-test.true c.index-items-i.is c.make.ensures c.loop-i.invariant
