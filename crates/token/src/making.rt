@@ -1,6 +1,5 @@
 //! How a drawing is made of tables.
-ghost use Rattle.std.specs.Prelude.{◌≡◌, ◌≤◌, length};
-ghost use Rattle.fixed.specs.Items.{items_of};
+ghost use Rattle.std.specs.Prelude.{◌≡◌, ◌≤◌};
 ghost use Rattle.token.specs.Clocks.{day_after, cap_of};
 ghost use Rattle.token.specs.Known.{Amounts, Known};
 ghost use Rattle.token.specs.Drawn.{drawing_of, drawn};
@@ -42,22 +41,14 @@ fn cap_of(nodes: &[Node]) -> u16
     nodes.iter().map(|node| day_after(*node)).max().unwrap_or(0)
 }
 
-// Just these items, of which there are at most N.
-fn whole<T: Copy, const N: usize>(items: &[T], unused: T) -> Fixed<T, N>
-    requires { length items.now ≤ N }
-    ensures { items_of result ≡ items.now }
-{
-    Fixed::new(items, unused)
-}
-
 // The drawing of these tables.
 fn draw(nodes: &[Node], edges: &[Edge]) -> TokenDrawing
     requires { Known nodes.now edges.now }
     ensures { drawing_of result ≡ record { nodes = nodes.now; edges = edges.now } }
 {
     TokenDrawing {
-        nodes: whole(nodes, NO_NODE),
-        edges: whole(edges, NO_EDGE),
+        nodes: Fixed::new(nodes, NO_NODE),
+        edges: Fixed::new(edges, NO_EDGE),
         cap: cap_of(nodes),
     }
 }

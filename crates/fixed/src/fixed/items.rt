@@ -8,7 +8,8 @@ use std::alloc::AllocError;
 impl<T: Copy, const N: usize> Fixed<T, N> {
     /// The list of these items, but for those past the first N. The rest of the array holds `unused`.
     pub fn new(items: &[T], unused: T) -> Fixed<T, N>
-        ensures { items_of result ≡ take N items.now }
+        ensures front { items_of result ≡ take N items.now }
+        ensures whole { length items.now ≤ N → items_of result ≡ items.now }
     {
         let len = items.len().min(N);
         let mut array = [unused; N];
@@ -19,7 +20,8 @@ impl<T: Copy, const N: usize> Fixed<T, N> {
 
     /// Puts these items in place of its own, but for those past the first N.
     pub fn replace(&mut self, items: &[T])
-        ensures { items_of self.new ≡ take N items.now }
+        ensures front { items_of self.new ≡ take N items.now }
+        ensures whole { length items.now ≤ N → items_of self.new ≡ items.now }
     {
         let len = items.len().min(N);
         let all: &mut [T] = &mut self.array;
