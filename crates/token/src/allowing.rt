@@ -21,6 +21,8 @@ fn is_enterable(kind: Kind, leaving: usize) -> bool
     }
 }
 
+// That a node, an edge or an act is one of the drawing is asked of its number alone: a type for such a number would be made
+// and opened again at each call.
 impl Marking<'_> {
     fn mark(&self, n: usize) -> u16
         requires { n < n_of (drawing_in self.now) }

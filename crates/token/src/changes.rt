@@ -52,7 +52,7 @@ pub(crate) trait Change<T> {
     ghost tame: { (change : Self) (width i : ℕ) (item : T) → Tame width 1 (makes change i item) };
 }
 
-// Each of the list in turn changes the row.
+// Each of the list in turn changes the row. A loop, since a closure that writes into the row leaves nothing known of it.
 pub(crate) fn sweep<T: Copy, C: Change<T> + Copy>(items: &[T], change: C, out: &mut [u16])
     requires long { C.first change + length items.now ≤ length out.old }
     requires few { length items.now ≤ 128 }
@@ -177,7 +177,8 @@ fn pass_one(n: usize, i: usize, node: Node, out: &mut [u16])
     }
 }
 
-// The clock of each marked node that waits for its length rises by one. It stays a plain loop over the nodes by index, as this project wants the passing unit written.
+// The clock of each marked node that waits for its length rises by one. A loop over the nodes with an index, as this project
+// wants the passing unit written.
 pub(crate) fn pass_clocks(nodes: &[Node], out: &mut [u16])
     requires long { 2 * length nodes.now ≤ length out.old }
     requires few { length nodes.now ≤ 64 }

@@ -91,6 +91,9 @@ impl TokenDrawing {
         sweep(self.node_list(), Start, out);
     }
 
+    // The row is lent and written, so its width and its bound are one fact that each change asks for (`LowRow`): a struct round
+    // the row would have to be shown low again after each write.
+
     // One unit passes.
     fn pass(&self, out: &mut [u16])
         requires { LowRow (drawing_of self.now) 10000 out.old }
