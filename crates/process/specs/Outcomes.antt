@@ -1,5 +1,5 @@
 -- What each call of a process answers, and what it leaves in its buffer.
-use Rattle.std.specs.Prelude.{ℕ, Bool, true, false, cond, length, Some, None, Ok, Err, Option, Result, ◌==◌, nat_lt}
+use Rattle.std.specs.Prelude.{ℕ, Bool, true, false, cond, ◌&&◌, length, Some, None, Ok, Err, Option, Result, ◌==◌, nat_lt}
 use Rattle.process.specs.Meaning.{Meaning, Row}
 use Rattle.process.specs.Refusals.{number_of, place_of}
 use Rattle.process.specs.declared.refusal.Refusal.{Refusal}
@@ -36,6 +36,10 @@ refused n b = record { answer = refuses n 0; left = b }
 
 abbrev pub start_outcome : Meaning → Row → Outcome
 start_outcome m b = cond (length b == m.width) (wrote m.start) (refused 20 b)
+
+-- whether a row, a choice and a buffer that holds b are of the process at all
+abbrev pub admitted : Meaning → Row → ℕ → Row → Answer Unit
+admitted m r c b = cond (length r == m.width && length b == m.width) (cond (nat_lt c m.choices) (gives tt) (refuses 21 0)) (refuses 20 0)
 
 abbrev pub next_or : Option Row → Row → Outcome
 next_or (Some s) b = wrote s

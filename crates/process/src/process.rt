@@ -2,7 +2,7 @@
 ghost use Rattle.std.specs.Prelude.{◌≡◌, ℕ};
 ghost use Rattle.process.specs.Meaning.{Meaning, Lawful};
 ghost use Rattle.process.specs.Bounds.{Within};
-ghost use Rattle.process.specs.Outcomes.{told, start_outcome, next_outcome};
+ghost use Rattle.process.specs.Outcomes.{told, start_outcome, admitted, next_outcome};
 
 use crate::limits::Limits;
 use crate::refusal::Refusal;
@@ -47,6 +47,20 @@ pub trait Process {
     /// Whether the row is safe. One of another length is not.
     fn is_safe(&self, row: &[u16]) -> bool
         ensures { result ≡ (meaning self.now).safe row.now };
+
+    /// Whether a row, a choice and a buffer are of this process at all. Refuses by 20 and 21, in this order.
+    fn admit(&self, row: &[u16], choice: usize, out: &[u16]) -> Result<(), Refusal>
+        ensures { told result ≡ admitted (meaning self.now) row.now choice out.now }
+    {
+        let width = self.width();
+        if row.len() != width || out.len() != width {
+            return Err(Refusal::WrongLength);
+        }
+        if choice >= self.choices() {
+            return Err(Refusal::NoSuchChoice);
+        }
+        Ok(())
+    }
 
     /// Writes the row that the choice leads to. Refuses by 20, 21 and 22, in this order.
     fn next(&self, row: &[u16], choice: usize, out: &mut [u16]) -> Result<(), Refusal>

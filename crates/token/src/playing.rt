@@ -42,13 +42,7 @@ impl Process for TokenDrawing {
     }
 
     fn next(&self, row: &[u16], choice: usize, out: &mut [u16]) -> Result<(), Refusal> {
-        let width = self.row_width();
-        if row.len() != width || out.len() != width {
-            return Err(Refusal::WrongLength);
-        }
-        if choice >= self.choice_count() {
-            return Err(Refusal::NoSuchChoice);
-        }
+        self.admit(row, choice, out)?;
         let act = self.act_of(choice);
         let here = Marking { drawing: self, row };
         if !here.may(act) || !self.row_is_safe(row) {

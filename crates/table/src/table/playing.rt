@@ -52,12 +52,7 @@ impl Process for Table {
     }
 
     fn next(&self, row: &[u16], choice: usize, out: &mut [u16]) -> Result<(), Refusal> {
-        if row.len() != 1 || out.len() != 1 {
-            return Err(Refusal::WrongLength);
-        }
-        if choice >= self.choices {
-            return Err(Refusal::NoSuchChoice);
-        }
+        self.admit(row, choice, out)?;
         if !self.is_safe(row) {
             return Err(Refusal::NotAllowed);
         }
