@@ -6,7 +6,7 @@ use table::Arc;
 use token::Act;
 use token_tables::{Edge, Kind, Mode, Node};
 
-/// What a line asks for.
+/// What a line asks for. What is done is chosen by a `match`: there are just these commands, each with what it needs.
 #[derive(Drop)]
 pub(crate) enum Command<'a> {
     /// The line is blank or a comment.

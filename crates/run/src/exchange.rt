@@ -1,7 +1,7 @@
 //! Calls on a run, as records.
 use process::Refusal;
 
-/// What can be asked of an open run.
+/// What can be asked of an open run. What is done is chosen by a `match`: there are just these calls.
 #[derive(Clone, Copy, PartialEq, Eq, Debug)]
 pub enum Call {
     Press { choice: usize },

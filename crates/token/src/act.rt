@@ -1,6 +1,7 @@
 //! What can be done in a drawing.
 
-/// What a choice stands for. Each choice of a drawing is one act, and each act at a node or an edge of it one choice.
+/// What a choice stands for. Each choice of a drawing is one act, and each act at a node or an edge of it one choice. What
+/// is done is chosen by a `match`, since there are just these acts, each with what it needs.
 #[derive(Clone, Copy, PartialEq, Eq, Debug)]
 pub enum Act {
     /// One unit of time passes.

@@ -39,6 +39,7 @@ impl<T: Copy, const N: usize> Fixed<T, N> {
     }
 }
 
+// By hand, since no derive covers a struct with a ghost field.
 impl<T: Copy, const N: usize> Clone for Fixed<T, N> {
     ghost is_clone = { λ x y. y ≡ x };
 
