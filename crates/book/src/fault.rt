@@ -1,7 +1,10 @@
 //! What is wrong with a listing.
-ghost use Rattle.book.specs.Faults.{number_of, place_of};
+ghost use Rattle.std.specs.Prelude.{Some};
+ghost use Rattle.book.specs.Faults.{number_of, place_of, words_of};
 
 use process::Numbered;
+use std::error::Error;
+use std::fmt;
 
 /// The one fault of a listing, whatever is wrong of the three: they share the number and the place.
 #[derive(Clone, Copy, PartialEq, Eq, Debug)]
@@ -29,3 +32,17 @@ impl Numbered for ListingFault {
         }
     }
 }
+
+impl fmt::Display for ListingFault {
+    ghost output = { λ f. Some (words_of f) };
+
+    fn fmt<W: fmt::Write>(&self, f: &mut fmt::Formatter<W>) -> fmt::Result {
+        f.write_str(match self {
+            ListingFault::Shape => {
+                "a listing has 1 to 512 cells a row, whole rows, and at most 65535 of them"
+            }
+        })
+    }
+}
+
+impl Error for ListingFault {}

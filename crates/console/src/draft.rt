@@ -186,7 +186,7 @@ impl Draft {
         self.listing = Listing::new(heap, width);
     }
 
-    // By what the procedure is told in words.
+    // The words for the procedure's rows and choices.
     fn telling(&self, heap: Global) -> Result<Telling, AllocError> {
         match self.stated {
             Stated::Table => self.table.table_names(heap).map(Telling::Written),

@@ -19,7 +19,7 @@ fn run_script(rt: &HostRuntime) -> anyhow::Result<()> {
     let mut input = BufReader::new(heap, rt.stdin())?;
     let mut session = Session::new(heap);
     let mut bytes: Vec<u8> = Vec::new(heap);
-    // Counted, since the line after the last has a number too, and a line that is no text is gone over.
+    // Counted, since `lines()` would end at a line that is no text, and the line after the last has a number too.
     for line in 1..usize::MAX {
         let printer = Printer { rt, line };
         bytes.clear();

@@ -133,7 +133,7 @@ impl<'a> Printer<'a> {
     }
 }
 
-// The choices of a drawing that are allowed at this row; a table is told without.
+// The choices of a drawing that are allowed at this row; none for a table.
 fn open_choices(
     heap: Global,
     telling: &Telling,

@@ -26,7 +26,7 @@ struct OpenRun {
 /// A call that is noted for a rehearsal, with its line.
 type Noted = (usize, Exchange);
 
-// A buffer of this length, filled with a number that no row of the table has.
+// A buffer of this length, filled with the largest cell, which seldom stands in a row.
 fn buffer(heap: Global, length: usize) -> Result<Vec<u16>, AllocError> {
     vec![in heap; u16::MAX; length]
 }
@@ -142,6 +142,7 @@ impl Session {
         }
     }
 
+    // Not one with `examine_drawing`: their lists and their words differ.
     fn examine_table(&self, printer: Printer<'_>) -> io::Result<()> {
         let table = &self.draft.table;
         let rows = table.safe.len();
@@ -177,9 +178,7 @@ impl Session {
             )),
             Err(fault) => printer.refused(
                 &fault,
-                format_args!(
-                    "{cells} cells at width {width}: a listing has 1 to 512 cells a row, whole rows, and at most 65535 of them"
-                ),
+                format_args!("{cells} cells at width {width}: {fault}"),
             ),
         }
     }

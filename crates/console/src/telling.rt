@@ -90,7 +90,7 @@ impl Sheet {
     }
 }
 
-/// By what rows and choices are told in words.
+/// The words for rows and choices, of a table or of a drawing: a closed choice, made by a `match`.
 #[derive(Drop)]
 pub(crate) enum Telling {
     Written(Names),

@@ -11,7 +11,7 @@ pub trait Numbered {
     fn number(&self) -> u16
         ensures { result ≡ number_of self.now };
 
-    /// Where it lies, or 0 where it has no place.
+    /// Where it lies, or 0 where it has no place, as a console shows it.
     fn place(&self) -> usize
         ensures { result ≡ place_of self.now };
 }

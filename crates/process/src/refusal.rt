@@ -6,7 +6,7 @@ use crate::numbered::Numbered;
 /// The operator's refusals.
 #[derive(Clone, Copy, PartialEq, Eq, Debug)]
 pub enum Refusal {
-    /// The row or the buffer has not the width of the process.
+    /// The row or the buffer has not the width of the process. What takes only a buffer asks this by itself: it is one `if`.
     WrongLength,
     /// The process has no choice of this number.
     NoSuchChoice,

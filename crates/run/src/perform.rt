@@ -11,7 +11,7 @@ use crate::run::Run;
 use process::{Process, Refusal};
 
 // Makes the call with this buffer.
-// That the process stays is said of each call: it is a fact of two states of a run, which no type can hold.
+// That a call keeps the process is said of each: it is a fact of two states of a run, which no type can hold.
 fn answer<P: Process>(run: &mut Run<P>, call: Call, out: &mut [u16]) -> Result<Reply, Refusal>
     ensures same { run.new.process ≡ run.old.process }
     ensures answer { told result ≡ answer_to (means run.old) (stands run.old) out.old call }

@@ -7,7 +7,7 @@ ghost use Rattle.run.specs.Standing.{stand_of, opened, row_after};
 use fixed::Fixed;
 use process::{Process, Refusal};
 
-// The row of a run, and how often the run was pressed.
+// The row of a run, and its tallies.
 #[derive(Clone, Copy)]
 pub(crate) struct Standing {
     pub(crate) row: Fixed<u16, 512>,

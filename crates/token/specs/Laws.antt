@@ -1,5 +1,5 @@
 -- What every process keeps to, of a drawing.
-use Rattle.std.specs.Prelude.{◌≡◌, ℕ, ◌+◌, ◌*◌, Bool, true, false, ◌&&◌, length, replicate, Some, None, nat_lt, slice_index, slice_set, refl}
+use Rattle.std.specs.Prelude.{◌≡◌, ℕ, ◌+◌, ◌*◌, Bool, true, false, ◌&&◌, length, replicate, Some, None, nat_lt, slice_index, slice_set, refl, ◌≤◌}
 use Rattle.std.proofs.Common.{ap, ◌∙◌, sym, inl, inr, arith}
 use Rattle.std.proofs.lemmas.List.{get_or_past, get_or-replicate, length-replicate}
 use Rattle.std.proofs.lemmas.Bool.{and_parts, cases_lt}
@@ -13,7 +13,7 @@ use Rattle.token.specs.declared.act.Act.TheVariants.{Pass, Complete, Enter, Choo
 use Rattle.token.specs.Clocks.{cap_of}
 use Rattle.token.specs.Rows.{f_of, day_of, width_of, safe}
 use Rattle.token.specs.Rules.{act_of, up, down, clear, wiped, sweep, start_one, pass_one, give_one, take_one, disarm_one, arm_one, given, taken, disarmed, armed, may, start_row, passed, ceded, entered, after_choose, made, next_row, meaning_of}
-use Rattle.token.specs.Known.{Known, AtMost}
+use Rattle.token.specs.Known.{Amounts, AtMost}
 use Rattle.token.specs.declared.token_drawing.TokenDrawing.{TokenDrawing}
 use Rattle.token.specs.Drawn.{drawing_of, means}
 use Rattle.token.specs.Tame.{Tame, tame_more, tame_none, tame_zero, tame_one, tame_up, tame_down, tame_if, tame_both, tame_clear, tame_sweep, tame_wiped}
@@ -51,17 +51,17 @@ module _ (d : Drawing) where
   tame_ceded kind.Terminate n = cleared n
   tame_ceded (kind.Other number) n = cleared n
 
-  module _ (known : Known d.nodes d.edges) where
+  module _ (few : n_of d ≤ 64) (thin : e_of d ≤ 128) where
     tame_given : (m : ℕ) → Mild 128 (given d m)
-    tame_given m = tame_more (width_of d) (1 * e_of d) 128 (given d m) (omega (arith, known.thin)) (tame_sweep (width_of d) 1 (give_one (f_of d) m) (give_tame (width_of d) (f_of d) m) 0 d.edges)
+    tame_given m = tame_more (width_of d) (1 * e_of d) 128 (given d m) (omega (arith, thin)) (tame_sweep (width_of d) 1 (give_one (f_of d) m) (give_tame (width_of d) (f_of d) m) 0 d.edges)
 
     tame_armed : (h : ℕ) → Mild 64 (armed d h)
-    tame_armed h = tame_more (width_of d) (1 * n_of d) 64 (armed d h) (omega (arith, known.few)) (tame_sweep (width_of d) 1 (arm_one (n_of d) h) (arm_tame (width_of d) (n_of d) h) 0 d.nodes)
+    tame_armed h = tame_more (width_of d) (1 * n_of d) 64 (armed d h) (omega (arith, few)) (tame_sweep (width_of d) 1 (arm_one (n_of d) h) (arm_tame (width_of d) (n_of d) h) 0 d.nodes)
 
     tame_passed : Mild 65 (passed d)
     tame_passed =
         tame_both (width_of d) 64 1 (sweep (pass_one (n_of d)) 0 d.nodes) _
-        (tame_more (width_of d) (1 * n_of d) 64 _ (omega (arith, known.few)) (tame_sweep (width_of d) 1 (pass_one (n_of d)) (pass_tame (width_of d) (n_of d)) 0 d.nodes))
+        (tame_more (width_of d) (1 * n_of d) 64 _ (omega (arith, few)) (tame_sweep (width_of d) 1 (pass_one (n_of d)) (pass_tame (width_of d) (n_of d)) 0 d.nodes))
         (tame_if (width_of d) 1 (λ r. nat_lt (slice_index r (day_of d)) (cap_of d.nodes)) (λ r. up r (day_of d)) (λ r. r) (tame_up (width_of d) (day_of d)) (still 1))
 
     tame_entered : (k : Kind) (n : ℕ) → Mild 128 (entered k d n)
@@ -94,36 +94,36 @@ at_most_zeros n b k =
       | inr g ↦ omega (arith, get_or_past {X = ℕ} (replicate n 0) k 0 (omega (arith, length-replicate {A = ℕ} n 0)))
     ]
 
-module _ (d : Drawing) (known : Known d.nodes d.edges) where
+module _ (d : Drawing) (few : n_of d ≤ 64) (thin : e_of d ≤ 128) where
   begun_row : IsRow (width_of d) (start_row d)
   begun_row =
       let t = tame_sweep (width_of d) 1 start_one (start_tame (width_of d)) 0 d.nodes in
       let z = replicate {A = ℕ} (width_of d) 0 in
       let e : length z ≡ width_of d = length-replicate (width_of d) 0 in
-      record { long = t.long z e; cells = λ k. omega (arith, known.few, t.low 0 z e (at_most_zeros (width_of d) 0) k) }
+      record { long = t.long z e; cells = λ k. omega (arith, few, t.low 0 z e (at_most_zeros (width_of d) 0) k) }
 
-  made_row : (r s : Row) (c : ℕ) → next_row d r c ≡ Some s → IsRow (width_of d) s
-  made_row r s c h =
+  made_row : Amounts d.nodes → (r s : Row) (c : ℕ) → next_row d r c ≡ Some s → IsRow (width_of d) s
+  made_row amounts r s c h =
       let p = chosen (safe d r && may d r (act_of d c)) (made d (act_of d c) r) s h in
       let q : safe d r ≡ true = (and_parts _ _ p.0).0 in
-      let t = tame_made d known (act_of d c) in
+      let t = tame_made d few thin (act_of d c) in
       let e : length r ≡ width_of d = (fits_of d r q).long in
-      record { long = ap length (sym p.1) ∙ t.long r e; cells = λ k. omega (arith, t.low 10000 r e (safe_low d r known.amounts q) k, ap (λ (x : Row). slice_index x k) p.1) }
+      record { long = ap length (sym p.1) ∙ t.long r e; cells = λ k. omega (arith, t.low 10000 r e (safe_low d r amounts q) k, ap (λ (x : Row). slice_index x k) p.1) }
 
-  lawful_of : Lawful (meaning_of d)
-  lawful_of = record {
+  lawful_of : Amounts d.nodes → Lawful (meaning_of d)
+  lawful_of amounts = record {
     width_low = omega arith;
-    width_high = omega (arith, known.few, known.thin);
+    width_high = omega (arith, few, thin);
     choices_low = omega arith;
-    choices_high = omega (arith, known.few, known.thin);
+    choices_high = omega (arith, few, thin);
     start_row = begun_row;
     safe_row = λ r h. (fits_of d r h).long;
-    next_row = λ r s c i l h. made_row r s c h;
+    next_row = λ r s c i l h. made_row amounts r s c h;
   }
 
 -- the same of a drawing of the code
 pub lawful_drawing : (p : TokenDrawing) → Lawful (means p)
-lawful_drawing p = lawful_of (drawing_of p) p.known
+lawful_drawing p = lawful_of (drawing_of p) p.known.few p.known.thin p.known.amounts
 
 pub within_drawing : (p : TokenDrawing) → Within (record { widest = 257; most_choices = 321 }) (means p)
 within_drawing p = record { width = omega (arith, p.known.few, p.known.thin); choices = omega (arith, p.known.few, p.known.thin); widest = omega arith; most = omega arith }

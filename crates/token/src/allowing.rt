@@ -42,7 +42,7 @@ impl Marking<'_> {
         requires { e < e_of (drawing_in self.now) }
         ensures { result ≡ slice_index (row_in self.now) (f_of (drawing_in self.now) + e) }
     {
-        self.row[2 * self.drawing.node_list().len() + e]
+        self.row[self.drawing.first_flow() + e]
     }
 
     fn day(&self) -> u16
@@ -71,7 +71,7 @@ impl Marking<'_> {
     fn is_ready(&self, n: usize) -> bool
         ensures { result ≡ ready (drawing_in self.now) n (row_in self.now) }
     {
-        let first = 2 * self.drawing.node_list().len();
+        let first = self.drawing.first_flow();
         is_ready(self.drawing.edge_list(), first, n, self.row)
     }
 

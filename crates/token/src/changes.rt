@@ -35,9 +35,9 @@ pub(crate) fn clear_node(n: usize, i: usize, out: &mut [u16])
     out[n + i] = 0;
 }
 
-// What each of a list, of nodes or of edges, changes in a row.
+// A change that each node or each edge makes to a row.
 pub(crate) trait Change<T> {
-    // The last cell that the first of them may change; each next one's is the next cell.
+    // The highest cell that item 0 may change; item i changes none above `first + i`.
     ghost first: { Self → ℕ };
 
     // The row that the i-th makes of a row.
@@ -52,7 +52,8 @@ pub(crate) trait Change<T> {
     ghost tame: { (change : Self) (width i : ℕ) (item : T) → Tame width 1 (makes change i item) };
 }
 
-// Each of the list in turn changes the row. A loop, since a closure that writes into the row leaves nothing known of it.
+// Each of the list in turn changes the row. A loop, since after a closure that writes into
+// the row the proof knows nothing of the row.
 pub(crate) fn sweep<T: Copy, C: Change<T> + Copy>(items: &[T], change: C, out: &mut [u16])
     requires long { C.first change + length items.now ≤ length out.old }
     requires few { length items.now ≤ 128 }
@@ -177,8 +178,8 @@ fn pass_one(n: usize, i: usize, node: Node, out: &mut [u16])
     }
 }
 
-// The clock of each marked node that waits for its length rises by one. A loop over the nodes with an index, as this project
-// wants the passing unit written.
+// The clock of each marked node that waits for its length rises by one. A function of its own, since this project wants the
+// passing unit written as a loop over the nodes with an index.
 pub(crate) fn pass_clocks(nodes: &[Node], out: &mut [u16])
     requires long { 2 * length nodes.now ≤ length out.old }
     requires few { length nodes.now ≤ 64 }

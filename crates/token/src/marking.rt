@@ -1,4 +1,4 @@
-//! A drawing at a row.
+//! Where a drawing stands.
 ghost use Rattle.std.specs.Prelude.{◌≡◌, length};
 ghost use Rattle.token.specs.Rows.{width_of};
 ghost use Rattle.token.specs.Drawn.{drawing_of};

@@ -37,7 +37,8 @@ pub(crate) fn nodes_fit(nodes: &[Node], row: &[u16]) -> bool
         .all(|(i, node)| node_fits(*node, row[i], row[nodes.len() + i]))
 }
 
-// Whether no edge has more than one mark; that of the first edge is in cell `first`.
+// Whether no edge has more than one mark; that of the first edge is in cell `first`. (As `all` over the part of the row it
+// was not proved.)
 pub(crate) fn edges_fit(edges: &[Edge], first: usize, row: &[u16]) -> bool
     requires { first + length edges.now ≤ length row.now }
     ensures { result ≡ edges_fit first edges.now row.now }

@@ -1,7 +1,7 @@
 //! What each act does.
 ghost use Rattle.std.specs.Prelude.{◌≡◌, ◌<◌, length};
 ghost use Rattle.token_tables.specs.Tables.{n_of, e_of, node_at};
-ghost use Rattle.token.specs.Rows.{day_of, width_of, safe};
+ghost use Rattle.token.specs.Rows.{f_of, day_of, width_of, safe};
 ghost use Rattle.token.specs.Rules.{choices_of, act_of, Of, wiped, start_row, given, taken, disarmed, armed, passed, ceded, completed, entered, after_enter, after_choose, made};
 ghost use Rattle.token.specs.Known.{AtMost, RaisesNone, LowRow};
 ghost use Rattle.token.specs.Drawn.{drawing_of};
@@ -27,11 +27,18 @@ impl TokenDrawing {
         self.edges.as_slice()
     }
 
+    // The cell with the marks of the first edge.
+    pub(crate) fn first_flow(&self) -> usize
+        ensures { result ≡ f_of (drawing_of self.now) }
+    {
+        2 * self.node_list().len()
+    }
+
     // The cell of the day clock, which is the last.
     pub(crate) fn day_cell(&self) -> usize
         ensures { result ≡ day_of (drawing_of self.now) }
     {
-        2 * self.node_list().len() + self.edge_list().len()
+        self.first_flow() + self.edge_list().len()
     }
 
     pub(crate) fn row_width(&self) -> usize
@@ -78,7 +85,7 @@ impl TokenDrawing {
         nodes.len() > 0
             && row.len() == self.row_width()
             && nodes_fit(nodes, row)
-            && edges_fit(edges, 2 * nodes.len(), row)
+            && edges_fit(edges, self.first_flow(), row)
             && row[day] <= self.cap
     }
 
@@ -92,7 +99,8 @@ impl TokenDrawing {
     }
 
     // The row is lent and written, so its width and its bound are one fact that each change asks for (`LowRow`): a struct round
-    // the row would have to be shown low again after each write.
+    // the row would have to be proved low again after each write. That a node or an edge is one of the drawing is asked of its
+    // number alone, as in `allowing.rt`.
 
     // One unit passes.
     fn pass(&self, out: &mut [u16])
@@ -111,7 +119,7 @@ impl TokenDrawing {
         requires { LowRow (drawing_of self.now) 20000 out.old }
         ensures { out.new ≡ given (drawing_of self.now) n out.old }
     {
-        let first = 2 * self.node_list().len();
+        let first = self.first_flow();
         sweep(self.edge_list(), Give { first, from: n }, out);
     }
 
@@ -121,7 +129,7 @@ impl TokenDrawing {
         ensures same { out.new ≡ taken (drawing_of self.now) n out.old }
         ensures low { RaisesNone out.old out.new }
     {
-        let first = 2 * self.node_list().len();
+        let first = self.first_flow();
         sweep(self.edge_list(), Take { first, into: n }, out);
     }
 
@@ -222,7 +230,7 @@ impl TokenDrawing {
         ensures { out.new ≡ after_enter (drawing_of self.now) e out.old }
     {
         let edges = self.edge_list();
-        lower(2 * self.node_list().len() + e, out);
+        lower(self.first_flow() + e, out);
         self.receive(edges[e].target as usize, out);
     }
 
@@ -233,7 +241,7 @@ impl TokenDrawing {
         ensures { out.new ≡ after_choose (drawing_of self.now) e out.old }
     {
         self.take(self.edge_list()[e].source as usize, out);
-        raise(2 * self.node_list().len() + e, out);
+        raise(self.first_flow() + e, out);
     }
 
     // Does what the act does.

@@ -135,7 +135,7 @@ fn has_start(nodes: &[Node]) -> bool
     nodes.iter().any(|node| node.kind.is_begin())
 }
 
-// The first fault: the size; then each node by itself; then each edge; then each node by its edges; then the starts.
+// What `examine` answers. That there is no fault just if the tables are good is proved once, there.
 fn first_fault(nodes: &[Node], edges: &[Edge]) -> Result<(), DrawingFault>
     ensures { told result ≡ examined nodes.now edges.now }
 {

@@ -2,7 +2,7 @@
 use crate::kind::Kind;
 use crate::mode::Mode;
 
-/// A node, as it is written in a table: good or not.
+/// A node, as it is written in a table, good or not: all fields are numbers there, so that each can be what is refused.
 #[derive(Clone, Copy, PartialEq, Eq, Debug)]
 pub struct Node {
     pub kind: Kind,

@@ -11,14 +11,15 @@ impl<T: Copy, const N: usize> Fixed<T, N> {
         ensures front { items_of result ≡ take N items.now }
         ensures whole { length items.now ≤ N → items_of result ≡ items.now }
     {
-        let len = items.len().min(N);
-        let mut array = [unused; N];
-        let all: &mut [T] = &mut array;
-        all[0..len].copy_from_slice(&items[0..len]);
-        Fixed { array, len }
+        let mut list = Fixed {
+            array: [unused; N],
+            len: 0,
+        };
+        list.replace(items);
+        list
     }
 
-    /// Puts these items in place of its own, but for those past the first N.
+    /// Replaces its items with these, but for those past the first N.
     pub fn replace(&mut self, items: &[T])
         ensures front { items_of self.new ≡ take N items.now }
         ensures whole { length items.now ≤ N → items_of self.new ≡ items.now }
@@ -39,7 +40,7 @@ impl<T: Copy, const N: usize> Fixed<T, N> {
     }
 }
 
-// By hand, since no derive covers a struct with a ghost field.
+// By hand, since no derive covers a generic struct with a ghost field.
 impl<T: Copy, const N: usize> Clone for Fixed<T, N> {
     ghost is_clone = { λ x y. y ≡ x };
 

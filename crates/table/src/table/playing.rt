@@ -56,12 +56,8 @@ impl Process for Table {
         if !self.is_safe(row) {
             return Err(Refusal::NotAllowed);
         }
-        match lead_of(&self.arcs, row[0], choice) {
-            Some(to) => {
-                put(out, to);
-                Ok(())
-            }
-            None => Err(Refusal::NotAllowed),
-        }
+        let to = lead_of(&self.arcs, row[0], choice).ok_or(Refusal::NotAllowed)?;
+        put(out, to);
+        Ok(())
     }
 }
