@@ -26,6 +26,9 @@ fn node_fits(node: Node, mark: u16, clock: u16) -> bool
     mark <= 1 && clock <= clock_top(node)
 }
 
+// These functions are over plain lists and rows, and ask each that the row is long enough: two of them are asked before it
+// is known that the row is of the drawing.
+
 // Whether no node has more than one mark, and each clock is in range.
 pub(crate) fn nodes_fit(nodes: &[Node], row: &[u16]) -> bool
     requires { 2 * length nodes.now ≤ length row.now }

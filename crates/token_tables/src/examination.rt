@@ -98,6 +98,8 @@ fn examine_count(edges: &[Edge], index: usize, node: Node) -> Result<(), Drawing
     }
 }
 
+// Three chains, and not one function over a closure: each would still be proved by an answer of its own.
+
 // The first fault of a node by itself.
 fn examine_nodes(nodes: &[Node]) -> Result<(), DrawingFault>
     ensures { told result ≡ first_fault (node_fault nodes.now) 0 nodes.now }
