@@ -90,7 +90,7 @@ impl Sheet {
     }
 }
 
-/// The words for rows and choices, of a table or of a drawing: a closed choice, made by a `match`.
+/// The words for rows and choices: those of a table, or those of a drawing.
 #[derive(Drop)]
 pub(crate) enum Telling {
     Written(Names),

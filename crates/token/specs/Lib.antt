@@ -1,5 +1,5 @@
 pub mod Clocks
-pub mod Numbered
+pub mod ByNumber
 pub mod Rows
 pub mod Rules
 pub mod Reading

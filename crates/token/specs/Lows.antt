@@ -11,7 +11,7 @@ use Rattle.token_tables.specs.Tables.{Drawing, n_of, e_of, no_node, no_edge, nod
 use Rattle.token.specs.Clocks.{is_after, clock_top, day_after, cap_of}
 use Rattle.token.specs.Rows.{f_of, day_of, width_of, node_fits, nodes_fit, edges_fit, safe}
 use Rattle.token.specs.Known.{Amounts, AtMost}
-use Rattle.token.specs.Numbered.{decides_each}
+use Rattle.token.specs.ByNumber.{decides_each}
 
 pub record Fits (d : Drawing) (r : Row) : Type 0 where
   pub some : 0 < n_of d

@@ -4,7 +4,7 @@ use Rattle.process.specs.Meaning.{Row}
 use Rattle.token_tables.specs.declared.node.Node.{Node}
 use Rattle.token_tables.specs.declared.edge.Edge.{Edge}
 use Rattle.token_tables.specs.Tables.{Drawing, n_of, e_of}
-use Rattle.token.specs.Numbered.{all_numbered}
+use Rattle.token.specs.ByNumber.{all_numbered}
 use Rattle.token.specs.Clocks.{clock_top, cap_of}
 
 -- A row has the marks of the nodes, the clocks of the nodes, the marks of the edges, and the day clock.

@@ -12,7 +12,7 @@ use Rattle.token_tables.specs.Tables.{Drawing, n_of, e_of, node_at, edge_at, lea
 use Rattle.token.specs.declared.act.Act.{Act}
 use Rattle.token.specs.declared.act.Act.TheVariants.{Pass, Complete, Enter, Choose}
 use Rattle.token.specs.Clocks.{is_after, cap_of}
-use Rattle.token.specs.Numbered.{all_numbered, any_numbered}
+use Rattle.token.specs.ByNumber.{all_numbered, any_numbered}
 use Rattle.token.specs.Rows.{f_of, day_of, width_of, safe}
 
 -- ## Choices and acts

@@ -16,7 +16,7 @@ use Rattle.token.specs.declared.act.Act.TheVariants.{Pass, Complete, Enter, Choo
 use Rattle.token.specs.Clocks.{is_after, clock_top, cap_of}
 use Rattle.token.specs.Rows.{f_of, day_of, width_of, safe}
 use Rattle.token.specs.Rules.{Of, rings, node_due, any_due, is_due, ready, is_free, may_complete, is_enterable, may}
-use Rattle.token.specs.Numbered.{decides_each, decides_none}
+use Rattle.token.specs.ByNumber.{decides_each, decides_none}
 use Rattle.token_rules.specs.Relation.{State, Safe, Rings, Due, Calm, Gathered, Ready, due, begun, gathered}
 use Rattle.token_rules.specs.Showing.{state_of}
 
