@@ -4,6 +4,7 @@ use crate::telling::{Facts, Names, Sheet, Telling};
 use book::{ListedBook, ListingFault};
 use process::Process;
 use std::alloc::{AllocError, Global};
+use std::rc::Rc;
 use table::{Arc, Table, TableFault};
 use token::{Act, TokenDrawing};
 use token_rules::draw;
@@ -20,16 +21,17 @@ pub(crate) struct TableDraft {
     /// Whether each row is safe. A list of its own, since `Table::new` takes it; the rows' names are in `names`.
     pub safe: Vec<bool>,
     pub arcs: Vec<Arc>,
-    pub names: Names,
+    /// Shared with the runs that are open or played, and copied only where more names are written meanwhile.
+    pub names: Rc<Names>,
 }
 
 impl TableDraft {
-    fn new(heap: Global) -> TableDraft {
-        TableDraft {
+    fn new(heap: Global) -> Result<TableDraft, AllocError> {
+        Ok(TableDraft {
             safe: Vec::new(heap),
             arcs: Vec::new(heap),
-            names: Names::new(heap),
-        }
+            names: Rc::new(heap, Names::new(heap))?,
+        })
     }
 
     pub(crate) fn add_row(
@@ -38,7 +40,9 @@ impl TableDraft {
         safe: bool,
         name: Option<&str>,
     ) -> Result<(), AllocError> {
-        self.names.rows.push(owned(heap, name)?)?;
+        Rc::make_mut(&mut self.names)?
+            .rows
+            .push(owned(heap, name)?)?;
         self.safe.push(safe)?;
         Ok(())
     }
@@ -49,23 +53,26 @@ impl TableDraft {
         choice: usize,
         name: Option<&str>,
     ) -> Result<(), AllocError> {
-        self.names.name_choice(choice, owned(heap, name)?)
+        Rc::make_mut(&mut self.names)?.name_choice(choice, owned(heap, name)?)
     }
 
     pub(crate) fn examine(&self) -> Result<(), TableFault> {
         table::examine(&self.safe, &self.arcs)
     }
 
-    /// The table as it is written, or the blank one.
-    pub(crate) fn table(&self) -> Result<Table, AllocError> {
-        Ok(Table::new(self.safe.clone()?, self.arcs.clone()?))
+    /// The table as it is written, or the blank one. Its lists are copied whole, as `clone` does not.
+    pub(crate) fn table(&self, heap: Global) -> Result<Table, AllocError> {
+        Ok(Table::new(
+            Vec::from_slice(heap, &self.safe)?,
+            Vec::from_slice(heap, &self.arcs)?,
+        ))
     }
 
     // The names as they are written. The blank table, which stands for a faulty one, has none.
-    fn table_names(&self, heap: Global) -> Result<Names, AllocError> {
+    fn table_names(&self, heap: Global) -> Result<Rc<Names>, AllocError> {
         match self.examine() {
             Ok(()) => self.names.clone(),
-            Err(_) => Ok(Names::new(heap)),
+            Err(_) => Ok(Rc::new(heap, Names::new(heap))?),
         }
     }
 }
@@ -163,18 +170,19 @@ pub(crate) struct Draft {
 }
 
 impl Draft {
-    pub(crate) fn new(heap: Global) -> Draft {
-        Draft {
+    pub(crate) fn new(heap: Global) -> Result<Draft, AllocError> {
+        Ok(Draft {
             stated: Stated::Table,
-            table: TableDraft::new(heap),
+            table: TableDraft::new(heap)?,
             drawing: DrawingDraft::new(heap),
             listing: Listing::new(heap, 0),
-        }
+        })
     }
 
-    pub(crate) fn begin_table(&mut self, heap: Global) {
+    pub(crate) fn begin_table(&mut self, heap: Global) -> Result<(), AllocError> {
         self.stated = Stated::Table;
-        self.table = TableDraft::new(heap);
+        self.table = TableDraft::new(heap)?;
+        Ok(())
     }
 
     pub(crate) fn begin_drawing(&mut self, heap: Global) {
@@ -195,9 +203,9 @@ impl Draft {
     }
 
     /// The table or the drawing, whichever was begun last.
-    pub(crate) fn procedure(&self) -> Result<Procedure, AllocError> {
+    pub(crate) fn procedure(&self, heap: Global) -> Result<Procedure, AllocError> {
         match self.stated {
-            Stated::Table => self.table.table().map(Procedure::Written),
+            Stated::Table => self.table.table(heap).map(Procedure::Written),
             Stated::Drawing => Ok(Procedure::Drawn(self.drawing.drawing())),
         }
     }

@@ -17,7 +17,7 @@ use std::str;
 fn run_script(rt: &HostRuntime) -> anyhow::Result<()> {
     let heap = rt.alloc();
     let mut input = BufReader::new(heap, rt.stdin())?;
-    let mut session = Session::new(heap);
+    let mut session = Session::new(heap)?;
     let mut bytes: Vec<u8> = Vec::new(heap);
     // Counted, since `lines()` would end at a line that is no text, and the line after the last has a number too.
     for line in 1..usize::MAX {

@@ -44,7 +44,7 @@ fn hold(printer: Printer<'_>, draft: &Draft, calls: Vec<Noted>) -> io::Result<()
     let heap = printer.heap();
     // Two lists, since `rehearse` takes a slice of exchanges.
     let (lines, mut exchanges): (Vec<usize>, Vec<Exchange>) = calls.into_iter().unzip(heap)?;
-    let process = draft.procedure()?;
+    let process = draft.procedure(heap)?;
     let facts = draft.facts(heap, &process)?;
     let done = rehearse(process, &draft.listing.book(), &mut exchanges);
     printer.verdict(done.verdict)?;
@@ -63,22 +63,23 @@ pub(crate) struct Session {
 }
 
 impl Session {
-    pub(crate) fn new(heap: Global) -> Session {
-        Session {
-            draft: Draft::new(heap),
+    pub(crate) fn new(heap: Global) -> Result<Session, AllocError> {
+        Ok(Session {
+            draft: Draft::new(heap)?,
             run: None,
             rehearsal: None,
-        }
+        })
     }
 
     fn open(&mut self, printer: Printer<'_>) -> io::Result<()> {
         if self.run.is_some() {
             return printer.bad("a run is open, so close it first");
         }
-        let process = self.draft.procedure()?;
-        let facts = self.draft.facts(printer.heap(), &process)?;
+        let heap = printer.heap();
+        let process = self.draft.procedure(heap)?;
+        let facts = self.draft.facts(heap, &process)?;
         let run = Run::open(process);
-        let mut row = buffer(printer.heap(), facts.width)?;
+        let mut row = buffer(heap, facts.width)?;
         let _ = run.look(&mut row);
         printer.say(format_args!("opened {}; {}", Cells(&row), facts.telling.row(&row)))?;
         self.run = Some(OpenRun { run, facts });
@@ -89,7 +90,7 @@ impl Session {
     fn make(&mut self, printer: Printer<'_>, call: Call, length: Option<usize>) -> io::Result<()> {
         let heap = printer.heap();
         if let Some(calls) = &mut self.rehearsal {
-            let width = self.draft.procedure()?.width();
+            let width = self.draft.procedure(heap)?.width();
             calls.push((printer.line, exchange(heap, call, length.unwrap_or(width))?))?;
             return Ok(());
         }
@@ -130,7 +131,7 @@ impl Session {
     }
 
     fn inspect(&self, printer: Printer<'_>) -> io::Result<()> {
-        let process = self.draft.procedure()?;
+        let process = self.draft.procedure(printer.heap())?;
         printer.verdict(inspect(&process, &self.draft.listing.book()))
     }
 
@@ -149,7 +150,7 @@ impl Session {
         let arcs = table.arcs.len();
         match table.examine() {
             Ok(()) => printer.good(
-                &table.table()?,
+                &table.table(printer.heap())?,
                 format_args!("a table of {rows} rows and {arcs} arcs"),
             ),
             Err(fault) => printer.refused(&fault, fault),
@@ -214,7 +215,7 @@ impl Session {
         let heap = printer.heap();
         match command {
             Command::Nothing => {}
-            Command::Table => self.draft.begin_table(heap),
+            Command::Table => self.draft.begin_table(heap)?,
             Command::Row { safe, name } => self.draft.table.add_row(heap, safe, name)?,
             Command::Choice { choice, name } => self.draft.table.name_choice(heap, choice, name)?,
             Command::Arc(arc) => self.draft.table.arcs.push(arc)?,

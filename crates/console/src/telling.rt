@@ -3,6 +3,7 @@ use crate::draft::DrawingDraft;
 use crate::say::{ChoiceWords, NodeName, RowWords, Target, Timer, Waiting};
 use std::alloc::{AllocError, Global};
 use std::collections::BTreeMap;
+use std::rc::Rc;
 use token::TokenDrawing;
 use token_tables::{Mode, Node};
 
@@ -93,7 +94,7 @@ impl Sheet {
 /// The words for rows and choices: those of a table, or those of a drawing.
 #[derive(Drop)]
 pub(crate) enum Telling {
-    Written(Names),
+    Written(Rc<Names>),
     Drawn(Sheet),
 }
 

@@ -25,16 +25,24 @@ impl Edge {
     }
 }
 
+// Sums of ones: a count of what a filter passes takes twice the time, since LLVM makes no vectors of it.
+
 /// How many edges go into this node.
 pub fn count_entering(edges: &[Edge], node: usize) -> usize
     ensures { result ≡ entering node edges.now }
 {
-    edges.iter().filter(|edge| edge.enters(node)).count()
+    edges
+        .iter()
+        .map(|edge| usize::from(edge.enters(node)))
+        .sum()
 }
 
 /// How many edges go out of this node.
 pub fn count_leaving(edges: &[Edge], node: usize) -> usize
     ensures { result ≡ leaving node edges.now }
 {
-    edges.iter().filter(|edge| edge.leaves(node)).count()
+    edges
+        .iter()
+        .map(|edge| usize::from(edge.leaves(node)))
+        .sum()
 }
