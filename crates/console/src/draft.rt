@@ -30,7 +30,7 @@ impl TableDraft {
         Ok(TableDraft {
             safe: Vec::new(heap),
             arcs: Vec::new(heap),
-            names: Rc::new(heap, Names::new(heap))?,
+            names: Names::none(heap)?,
         })
     }
 
@@ -72,7 +72,7 @@ impl TableDraft {
     fn table_names(&self, heap: Global) -> Result<Rc<Names>, AllocError> {
         match self.examine() {
             Ok(()) => self.names.clone(),
-            Err(_) => Ok(Rc::new(heap, Names::new(heap))?),
+            Err(_) => Names::none(heap),
         }
     }
 }

@@ -90,8 +90,11 @@ impl Session {
     fn make(&mut self, printer: Printer<'_>, call: Call, length: Option<usize>) -> io::Result<()> {
         let heap = printer.heap();
         if let Some(calls) = &mut self.rehearsal {
-            let width = self.draft.procedure(heap)?.width();
-            calls.push((printer.line, exchange(heap, call, length.unwrap_or(width))?))?;
+            let length = match length {
+                Some(length) => length,
+                None => self.draft.procedure(heap)?.width(),
+            };
+            calls.push((printer.line, exchange(heap, call, length)?))?;
             return Ok(());
         }
         let Some(OpenRun { run, facts }) = &mut self.run else {

@@ -15,11 +15,13 @@ pub(crate) struct Names {
 }
 
 impl Names {
-    pub(crate) fn new(heap: Global) -> Names {
-        Names {
+    /// No names yet, to be shared.
+    pub(crate) fn none(heap: Global) -> Result<Rc<Names>, AllocError> {
+        let names = Names {
             rows: Vec::new(heap),
             choices: BTreeMap::new(heap),
-        }
+        };
+        Ok(Rc::new(heap, names)?)
     }
 
     /// Names a choice, unless an earlier line did.
