@@ -197,8 +197,8 @@ impl Draft {
     // The words for the procedure's rows and choices.
     fn telling(&self, heap: Global) -> Result<Telling, AllocError> {
         match self.stated {
-            Stated::Table => self.table.table_names(heap).map(Telling::Written),
-            Stated::Drawing => self.drawing.sheet(heap).map(Telling::Drawn),
+            Stated::Table => Ok(Telling::Written(self.table.table_names(heap)?)),
+            Stated::Drawing => Ok(Telling::Drawn(self.drawing.sheet(heap)?)),
         }
     }
 
